@@ -1,0 +1,9 @@
+pub mod Sums
+pub mod Fractions
+pub mod Heaps
+pub mod Fronts
+pub mod Serving
+pub mod Entering
+pub mod ByTenths
+pub mod Rounding
+pub mod OneHanding
