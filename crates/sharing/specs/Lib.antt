@@ -1,4 +1,5 @@
 pub mod Places
+pub mod Rows
 pub mod Order
 pub mod Waiting
 pub mod Kinds

@@ -6,6 +6,7 @@ ghost use lib.ListN.{length};
 ghost use Rattle.sharing.specs.Entered.{Rounded};
 ghost use Rattle.sharing.specs.Kinds.{by-remainder};
 ghost use Rattle.sharing.specs.Places.{upto, total, at-place, by-place};
+ghost use Rattle.sharing.specs.Rows.{weights};
 ghost use Rattle.sharing.specs.Shares.{Shared, OnlyShares, part-of};
 ghost use Rattle.sharing.specs.Waiting.{waiting, room, Orderly};
 use super::hand::hand_out;
@@ -73,10 +74,10 @@ fn added(parts: &[u64; 64], odd: &[u64; 64]) -> [u64; 64]
 
 // Shares the amount out: each party gets its part rounded down, and what is left over goes one each to the greatest remainders.
 pub fn share_out<P: Party>(amount: u64, parties: &Row<'_, P>) -> Shares
-    ensures shared { λ r. ⌜ Shared (by-place heft (now (now (parties .entry) .items))) amount (at-place (r .parts)) (r .uncarried) ⌝ }
-    ensures only { λ r. ⌜ (0 < total (by-place heft (now (now (parties .entry) .items))) → OnlyShares (by-place heft (now (now (parties .entry) .items))) amount (at-place (r .parts))) ⌝ }
+    ensures shared { λ r. ⌜ Shared (weights heft (now (parties .entry))) amount (at-place (r .parts)) (r .uncarried) ⌝ }
+    ensures only { λ r. ⌜ (0 < total (weights heft (now (parties .entry))) → OnlyShares (weights heft (now (parties .entry))) amount (at-place (r .parts))) ⌝ }
     ensures adds { λ r. ⌜ total (at-place (r .parts)) + r .uncarried ≡ amount ⌝ }
-    ensures weightless { λ r. ⌜ ((i : ℕ) → by-place heft (now (now (parties .entry) .items)) i ≡ 0 → at-place (r .parts) i ≡ 0) ⌝ }
+    ensures weightless { λ r. ⌜ ((i : ℕ) → weights heft (now (parties .entry)) i ≡ 0 → at-place (r .parts) i ≡ 0) ⌝ }
 {
     let items = parties.items();
     let weight = total_weight(items);

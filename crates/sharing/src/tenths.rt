@@ -6,6 +6,7 @@ ghost use lib.ListN.{length};
 ghost use Rattle.sharing.specs.Entered.{Roomed};
 ghost use Rattle.sharing.specs.Kinds.{by-fraction};
 ghost use Rattle.sharing.specs.Places.{total, at-place, by-place};
+ghost use Rattle.sharing.specs.Rows.{weights};
 ghost use Rattle.sharing.specs.Tenths.{ByFraction, OnlyTenths};
 ghost use Rattle.sharing.specs.Waiting.{waiting, room, Orderly};
 use super::fraction::Fraction;
@@ -42,9 +43,9 @@ fn enter_rooms<P: Party>(parties: &[P], rooms: &[u32; 64], list: &mut WaitingLis
 // Gives `rest` tenths out, and says how many found no room. Only parties with a weight may have room.
 pub fn share_tenths<P: Party>(parties: &Row<'_, P>, rooms: &[u32; 64], rest: u64) -> Handed
     ensures adds { λ r. ⌜ total (at-place (r .given)) + r .left ≡ rest ⌝ }
-    ensures shared { λ r. ⌜ (((i : ℕ) → 0 < at-place (now (rooms .entry)) i → 0 < by-place heft (now (now (parties .entry) .items)) i) → ByFraction (by-place heft (now (now (parties .entry) .items))) (at-place (now (rooms .entry))) (at-place (r .given))) ⌝ }
-    ensures only { λ r. ⌜ (((i : ℕ) → 0 < at-place (now (rooms .entry)) i → 0 < by-place heft (now (now (parties .entry) .items)) i) → OnlyTenths (by-place heft (now (now (parties .entry) .items))) (at-place (now (rooms .entry))) (at-place (r .given))) ⌝ }
-    ensures whole { λ r. ⌜ (((i : ℕ) → 0 < at-place (now (rooms .entry)) i → 0 < by-place heft (now (now (parties .entry) .items)) i) → rest ≤ total (at-place (now (rooms .entry))) → r .left ≡ 0) ⌝ }
+    ensures shared { λ r. ⌜ (((i : ℕ) → 0 < at-place (now (rooms .entry)) i → 0 < weights heft (now (parties .entry)) i) → ByFraction (weights heft (now (parties .entry))) (at-place (now (rooms .entry))) (at-place (r .given))) ⌝ }
+    ensures only { λ r. ⌜ (((i : ℕ) → 0 < at-place (now (rooms .entry)) i → 0 < weights heft (now (parties .entry)) i) → OnlyTenths (weights heft (now (parties .entry))) (at-place (now (rooms .entry))) (at-place (r .given))) ⌝ }
+    ensures whole { λ r. ⌜ (((i : ℕ) → 0 < at-place (now (rooms .entry)) i → 0 < weights heft (now (parties .entry)) i) → rest ≤ total (at-place (now (rooms .entry))) → r .left ≡ 0) ⌝ }
 {
     let mut slots = [Fraction {
         had: 0,

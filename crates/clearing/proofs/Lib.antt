@@ -1,0 +1,4 @@
+pub mod Offering
+pub mod Cheap
+pub mod Only
+pub mod Standing

@@ -1,0 +1,4 @@
+-- The lemmas of the sellers.
+pub mod Pinned
+pub mod Reached
+pub mod Stepped
