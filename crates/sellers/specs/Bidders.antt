@@ -14,4 +14,4 @@ heft-of (Pooled p) = p .capacity .megawatts
 -- The curve is that of the unit, or that of the pool's steps.
 abbrev pub power-of : Bidder → ℕ → ℕ
 power-of (Thermal u) q = unit-power (u .capacity .megawatts) (u .floor .tenths) (u .base .tenths) (u .prices .prices) q
-power-of (Pooled p) q = pool-power (take (p .count) (p .steps)) q
+power-of (Pooled p) q = pool-power (take (p .offer .count) (p .offer .steps)) q

@@ -2,5 +2,6 @@
 pub mod Bidders
 pub mod Curves
 pub mod Faults
+pub mod Slots
 pub mod Steps
 pub mod Tiers

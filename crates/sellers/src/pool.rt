@@ -1,128 +1,24 @@
-// A pool: offers one to eight steps of price and power.
+// A pool: offers up to eight steps of price and power.
 ghost use mathlib.Core.Path.{_≡_};
-ghost use Prim.Native.Nat.{_*_, _≤_};
-ghost use lib.ListN.{length, take};
-ghost use Rattle.sellers.specs.Faults.{StepsFault};
-ghost use Rattle.sellers.specs.Steps.{Priced, Rising, Filled, Powered, whole, pool-power};
-ghost use Rattle.std.specs.Orderings.{When};
-ghost use Rattle.std.specs.Vec.{made, refused};
-ghost use Rattle.std.specs.declared.option.Option.the-variants.{Some, None};
+ghost use lib.ListN.{take};
+ghost use Rattle.sellers.specs.Steps.{pool-power};
 use crate::capacity::Capacity;
-use crate::fault::OfferFault;
 use crate::seller::Seller;
-use crate::step::Step;
+use crate::steps::StepOffer;
 use sharing::party::Party;
 
 #[derive(Clone, Copy)]
 pub struct Pool {
     capacity: Capacity,
-    count: u8,
-    // The offer, and after it steps that nothing reads.
-    steps: [Step; 8],
-    ghost begun: { 1 ≤ count },
-    ghost ended: { count ≤ 8 },
-    ghost priced: { Priced (take count steps) },
-    ghost rising: { Rising (take count steps) },
-    ghost filled: { Filled (take count steps) },
-    ghost held: { whole (take count steps) ≤ 10 * capacity .megawatts },
+    offer: StepOffer,
 }
 
 impl Pool {
-    // The pool with an offer of these steps, or the first test that they fail.
-    pub fn new(capacity: Capacity, steps: &[Step]) -> Result<Pool, OfferFault>
-        ensures made { λ r. ⌜ made r (λ p. StepsFault (capacity .megawatts) (now (steps .entry)) None × (p .capacity ≡ capacity) × (take (p .count) (p .steps) ≡ now (steps .entry))) ⌝ }
-        ensures refused { λ r. ⌜ refused r (λ f. StepsFault (capacity .megawatts) (now (steps .entry)) (Some f)) ⌝ }
+    pub fn new(capacity: Capacity, offer: StepOffer) -> Pool
+        ensures { λ r. ⌜ (r .capacity ≡ capacity) × (r .offer ≡ offer) ⌝ }
     {
-        if steps.is_empty() || steps.len() > 8 {
-            return Err(OfferFault::StepCount);
-        }
-        if !within_sixty(steps) {
-            return Err(OfferFault::PriceAboveCap);
-        }
-        if !rising(steps) {
-            return Err(OfferFault::PriceFalls);
-        }
-        if !powered(steps, capacity) {
-            return Err(OfferFault::StepPower);
-        }
-        let count = steps.len() as u8;
-        Ok(Pool {
-            capacity,
-            count,
-            steps: eight(steps),
-        })
+        Pool { capacity, offer }
     }
-}
-
-// Whether no price is above 60.
-fn within_sixty(steps: &[Step]) -> bool
-    ensures { λ r. ⌜ When r (Priced (now (steps .entry))) (Priced (now (steps .entry)) → ⊥) ⌝ }
-{
-    for step in steps {
-        if step.price > 60 {
-            return false;
-        }
-    }
-    true
-}
-
-// Whether no price is below the one before it.
-fn rising(steps: &[Step]) -> bool
-    ensures { λ r. ⌜ When r (Rising (now (steps .entry))) (Rising (now (steps .entry)) → ⊥) ⌝ }
-{
-    for k in 1..steps.len() {
-        if steps[k].price < steps[k - 1].price {
-            return false;
-        }
-    }
-    true
-}
-
-// Whether no step is of power 0.
-fn filled(steps: &[Step]) -> bool
-    ensures { λ r. ⌜ When r (Filled (now (steps .entry))) (Filled (now (steps .entry)) → ⊥) ⌝ }
-{
-    for step in steps {
-        if step.power == 0 {
-            return false;
-        }
-    }
-    true
-}
-
-// The power of all steps.
-fn total(steps: &[Step]) -> u32
-    requires { ⌜ length (now steps) ≤ 8 ⌝ }
-    ensures { λ r. ⌜ r ≡ whole (now (steps .entry)) ⌝ }
-{
-    let mut sum = 0u32;
-    for step in steps {
-        sum += u32::from(step.power);
-    }
-    sum
-}
-
-// Whether the steps are filled, and together within ten times the capacity.
-fn powered(steps: &[Step], capacity: Capacity) -> bool
-    requires { ⌜ length (now steps) ≤ 8 ⌝ }
-    ensures { λ r. ⌜ When r (Powered (capacity .megawatts) (now (steps .entry))) (Powered (capacity .megawatts) (now (steps .entry)) → ⊥) ⌝ }
-{
-    if !filled(steps) {
-        return false;
-    }
-    total(steps) <= 10 * u32::from(capacity.megawatts())
-}
-
-// The steps, with empty ones after them.
-fn eight(steps: &[Step]) -> [Step; 8]
-    requires { ⌜ length (now steps) ≤ 8 ⌝ }
-    ensures { λ r. ⌜ take (length (now (steps .entry))) r ≡ now (steps .entry) ⌝ }
-{
-    let mut all = [Step { price: 0, power: 0 }; 8];
-    for k in 0..steps.len() {
-        all[k] = steps[k];
-    }
-    all
 }
 
 // The weight is the capacity.
@@ -136,23 +32,9 @@ pub impl Party for Pool as PoolParty {
 
 // It offers the steps priced so.
 pub impl Seller for Pool as PoolSeller {
-    ghost power = { λ p. pool-power (take (p .count) (p .steps)) };
+    ghost power = { λ p. pool-power (take (p .offer .count) (p .offer .steps)) };
 
     fn curve(&self, price: u8) -> u32 {
-        up_to(&self.steps[0..self.count as usize], price.min(60))
+        self.offer.power(price.min(60))
     }
-}
-
-// The power of the steps priced `price` or less.
-fn up_to(steps: &[Step], price: u8) -> u32
-    requires { ⌜ length (now steps) ≤ 8 ⌝ }
-    ensures { λ r. ⌜ r ≡ pool-power (now (steps .entry)) price ⌝ }
-{
-    let mut sum = 0u32;
-    for step in steps {
-        if step.price <= price {
-            sum += u32::from(step.power);
-        }
-    }
-    sum
 }

@@ -1,6 +1,6 @@
 // A power of at most 20,000 tenths of a megawatt.
 ghost use mathlib.Core.Path.{_≡_};
-ghost use Prim.Native.Nat.{_≤_, _<_};
+ghost use Prim.Native.Nat.{_-_, _≤_, _<_};
 ghost use Rattle.std.specs.Options.{Cases};
 
 #[derive(Clone, Copy)]
@@ -25,5 +25,12 @@ impl Power {
         ensures most { λ r. ⌜ r ≤ 20000 ⌝ }
     {
         self.tenths
+    }
+    // The power less `by`, or 0.
+    pub fn less(self, by: u32) -> Power
+        ensures { λ r. ⌜ r .tenths ≡ self .tenths - by ⌝ }
+    {
+        let tenths = u32::from(self.tenths).saturating_sub(by) as u16;
+        Power { tenths }
     }
 }

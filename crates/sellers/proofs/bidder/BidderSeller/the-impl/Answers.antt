@@ -8,4 +8,4 @@ use Rattle.sellers.proofs.bidder.BidderSeller.the-impl.Needs as need
 pub lawful-law : need.lawful-law
 lawful-law (Thermal u) =
     unit-lawful (u .capacity .megawatts) (u .floor .tenths) (u .base .tenths) (u .prices .prices) (u .base .most) (u .prices .capped)
-lawful-law (Pooled p) = pool-lawful (p .capacity .megawatts) (take (p .count) (p .steps)) (p .capacity .most) (p .held)
+lawful-law (Pooled p) = pool-lawful (take (p .offer .count) (p .offer .steps)) (p .offer .held)

@@ -4,4 +4,4 @@ use Rattle.sellers.proofs.Stepped.{pool-lawful}
 use Rattle.sellers.proofs.pool.PoolSeller.the-impl.Needs as need
 
 pub lawful-law : need.lawful-law
-lawful-law p = pool-lawful (p .capacity .megawatts) (take (p .count) (p .steps)) (p .capacity .most) (p .held)
+lawful-law p = pool-lawful (take (p .offer .count) (p .offer .steps)) (p .offer .held)

@@ -9,8 +9,8 @@ use lib.Seq.{take-all}
 use Rattle.std.proofs.shelf.Sums.{sumBy-more}
 use Rattle.std.proofs.shelf.Tests.{le-leb, lt-leb, cond-true, cond-false}
 use Rattle.sellers.specs.Steps.{no-step, pool-power}
-use Rattle.sellers.proofs.pool.up_to.Needs as need
-use Rattle.sellers.proofs.pool.up_to.Needs.{then-step-price, else-step-price}
+use Rattle.sellers.proofs.steps.up_to.Needs as need
+use Rattle.sellers.proofs.steps.up_to.Needs.{then-step-price, else-step-price}
 
 pub loop-step-again : need.loop-step-again
 loop-step-again c =

@@ -5,7 +5,7 @@ use native.Mathlib.Omega.{arith}
 use lib.Seq.{take-all}
 use Rattle.std.proofs.shelf.Sums.{sumBy-more}
 use Rattle.sellers.specs.Steps.{whole, no-step}
-use Rattle.sellers.proofs.pool.total.Needs as need
+use Rattle.sellers.proofs.steps.total.Needs as need
 
 pub loop-step-again : need.loop-step-again
 loop-step-again c =

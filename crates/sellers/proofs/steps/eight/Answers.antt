@@ -6,7 +6,7 @@ use lib.ListN.{length, take, getD, length-set}
 use lib.Seq.{take-all}
 use Rattle.std.proofs.shelf.Lists.{take-more-set, take-more}
 use Rattle.sellers.specs.Steps.{no-step}
-use Rattle.sellers.proofs.pool.eight.Needs as need
+use Rattle.sellers.proofs.steps.eight.Needs as need
 
 pub loop-k-again : need.loop-k-again
 loop-k-again c =
