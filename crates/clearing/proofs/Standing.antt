@@ -1,14 +1,14 @@
 -- The curves of a round's sellers by their numbers, and the calls made from them. Assumes nothing.
 use mathlib.Core.Path.{_≡_, refl, sym, ap, subst, _∙_}
 use mathlib.Core.List.{List, [], _∷_, map}
-use Prim.Native.Nat.{ℕ, zero, suc, _+_, _-_, _≤_, _<_, _^_}
+use Prim.Native.Nat.{ℕ, zero, suc, _+_, _-_, _*_, _≤_, _<_}
 use native.Mathlib.Omega.{arith}
 use lib.ListN.{length, getD}
 use Rattle.std.proofs.shelf.Lists.{getD-map, getD-past, length-map}
 use Rattle.std.proofs.shelf.Tests.{cases-lt}
 use Rattle.sharing.specs.Places.{total}
 use Rattle.sharing.specs.Tenths.{ByFraction}
-use Rattle.sharing.proofs.Sums.{cases, upto-le, upto-add, upto-same, upto-zero}
+use Rattle.sharing.proofs.Sums.{cases, upto-le, upto-add, upto-same, upto-times, upto-ones, upto-zero}
 use Rattle.sellers.specs.Curves.{Lawful}
 use Rattle.clearing.specs.Calls.{under, at-price, CalledAt}
 use Rattle.clearing.specs.Prices.{curves-at, offered, Least}
@@ -32,6 +32,12 @@ under-le curve law (suc p) most = law .rises p (suc p) (omega arith) most
 module _ (curves : ℕ → ℕ → ℕ) (lawful : (i : ℕ) → Lawful (curves i)) where
   pub offered-rises : (p q : ℕ) → p ≤ q → q ≤ 60 → offered curves p ≤ offered curves q
   offered-rises p q l most = upto-le (λ i. curves i p) (λ i. curves i q) 64 (λ i h. lawful i .rises p q l most)
+
+  -- 64 sellers have 20,000 each at most
+  pub offered-most : offered curves 60 ≤ 1280000
+  offered-most =
+      let l = upto-le (λ i. curves i 60) (λ _. 20000 * 1) 64 (λ i h. lawful i .capped) in
+      omega (arith, upto-times 20000 (λ _. 1) 64, upto-ones 64)
 
   module _ (weights : ℕ → ℕ) (p brought : ℕ) (least : Least (offered curves) brought p) (low rooms : ℕ → ℕ) (is-low : (i : ℕ) → low i ≡ under (curves i) p) (is-room : (i : ℕ) → rooms i ≡ curves i p - low i) where
     -- what is offered below the price is not yet enough

@@ -15,7 +15,7 @@ use sellers::seller::Seller;
 use sharing::row::Row;
 
 // Clears a round: brings as much of `wanted` as the sellers have, at the least price that brings it.
-pub fn clear<S: Seller>(sellers: &Row<'_, S>, wanted: u32) -> Clearing
+pub fn clear<S: Seller>(sellers: &Row<'_, S>, wanted: u64) -> Clearing
     ensures clears { λ r. ⌜ Clears (weights (S·Party .heft) (now (sellers .entry))) (curves (S·Seller .power) (now (sellers .entry))) wanted (r .brought) (r .price) (at-place (r .calls)) ⌝ }
     ensures only { λ r. ⌜ OnlyAnswer (weights (S·Party .heft) (now (sellers .entry))) (curves (S·Seller .power) (now (sellers .entry))) wanted (r .brought) (r .price) (at-place (r .calls)) ⌝ }
     ensures short { λ r. ⌜ Short (curves (S·Seller .power) (now (sellers .entry))) wanted (r .brought) ⌝ }
@@ -24,7 +24,7 @@ pub fn clear<S: Seller>(sellers: &Row<'_, S>, wanted: u32) -> Clearing
     ensures settled { λ r. ⌜ Settled (curves (S·Seller .power) (now (sellers .entry))) (r .price) (at-place (r .calls)) ⌝ }
 {
     let items = sellers.items();
-    let brought = u64::from(wanted).min(offered(items, 60)) as u32;
+    let brought = wanted.min(offered(items, 60)) as u32;
     if brought == 0 {
         return Clearing {
             brought,

@@ -17,7 +17,7 @@ const PERIOD: u8 = 5;
 
 const ROUND: u8 = 0;
 
-const WANTED: u32 = 1500;
+const WANTED: u64 = 1500;
 
 // A unit of the small day; both offer the same prices.
 fn unit(capacity: u16, floor: u16, base: u16) -> Option<Bidder> {

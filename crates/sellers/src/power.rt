@@ -20,6 +20,13 @@ impl Power {
         Some(Power { tenths })
     }
 
+    // No power.
+    pub fn zero() -> Power
+        ensures { λ r. ⌜ r .tenths ≡ 0 ⌝ }
+    {
+        Power { tenths: 0 }
+    }
+
     pub fn tenths(self) -> u16
         ensures value { λ r. ⌜ r ≡ self .tenths ⌝ }
         ensures most { λ r. ⌜ r ≤ 20000 ⌝ }

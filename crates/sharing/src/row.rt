@@ -22,6 +22,20 @@ impl<'a, T> Row<'a, T> {
         Some(Row { items })
     }
 
+    // The row of all 64.
+    pub fn full(items: &'a [T; 64]) -> Row<'a, T>
+        ensures { λ r. ⌜ now (r .items) ≡ now (items .entry) ⌝ }
+    {
+        Row { items }
+    }
+
+    // A row of eight.
+    pub fn eight(items: &'a [T; 8]) -> Row<'a, T>
+        ensures { λ r. ⌜ now (r .items) ≡ now (items .entry) ⌝ }
+    {
+        Row { items }
+    }
+
     pub fn items(&self) -> &'a [T]
         ensures same { λ r. ⌜ now r ≡ now (now (self .entry) .items) ⌝ }
         ensures few { λ r. ⌜ length (now r) ≤ 64 ⌝ }

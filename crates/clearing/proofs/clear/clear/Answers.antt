@@ -9,11 +9,17 @@ use Rattle.clearing.specs.Prices.{curves-at, offered, Least}
 use Rattle.clearing.proofs.Cheap.{all-cheapest, all-settled}
 use Rattle.clearing.proofs.Offering.{all-offers}
 use Rattle.clearing.proofs.Only.{all-only}
-use Rattle.clearing.proofs.Standing.{lawful-at}
+use Rattle.clearing.proofs.Standing.{lawful-at, offered-most}
 use Rattle.clearing.proofs.clear.clear.Needs as need
 
 shortage : (curves : ℕ → ℕ → ℕ) (wanted brought : ℕ) → brought ≡ min wanted (offered curves 60) → Short curves wanted brought
 shortage curves wanted brought is = record { only-then = λ l. omega arith; always-then = λ l. omega arith }
+
+pub cast-brought : need.cast-brought
+cast-brought g c =
+    let power = g .S·Seller .power in
+    let items = c .items-items .result .now in
+    omega (arith, c .offered .ensures, offered-most (curves-at power items) (lawful-at power (g .S·Seller·met .lawful) items))
 
 pub returns-then-brought-eq0 : need.returns-then-brought-eq0
 returns-then-brought-eq0 g c =
@@ -23,7 +29,7 @@ returns-then-brought-eq0 g c =
     let fs = curves-at power row in
     let law = lawful-at power (g .S·Seller·met .lawful) row in
     let all : c .offered .result ≡ offered fs 60 = c .offered .ensures ∙ ap (λ l. offered (curves-at power l) 60) (c .items-items .ensures .same) in
-    let brings : c .min-brought .result ≡ min (c .args .wanted) (offered fs 60) = c .min-brought .ensures ∙ (λ k. min (c .from .ensures k) (all k)) in
+    let brings : c .min-brought .result ≡ min (c .args .wanted) (offered fs 60) = c .min-brought .ensures ∙ ap (min (c .args .wanted)) all in
     let clears : Clears w fs (c .args .wanted) (c .min-brought .result) None _ = record { brings = brings; priced = (c .if-brought-eq0 .taken, zeros 64) } in
     record {
       clears = clears;
@@ -42,7 +48,7 @@ returns g c =
     let fs = curves-at power row in
     let law = lawful-at power (g .S·Seller·met .lawful) row in
     let all : c .offered .result ≡ offered fs 60 = c .offered .ensures ∙ ap (λ l. offered (curves-at power l) 60) (c .items-items .ensures .same) in
-    let brings : c .min-brought .result ≡ min (c .args .wanted) (offered fs 60) = c .min-brought .ensures ∙ (λ k. min (c .from .ensures k) (all k)) in
+    let brings : c .min-brought .result ≡ min (c .args .wanted) (offered fs 60) = c .min-brought .ensures ∙ ap (min (c .args .wanted)) all in
     let p = c .least-price-price .result in
     let least : Least (offered fs) (c .min-brought .result) p = subst (λ l. Least (offered (curves-at power l)) (c .min-brought .result) p) (c .items-items .ensures .same) (c .least-price-price .ensures) in
     let clears : Clears w fs (c .args .wanted) (c .min-brought .result) (Some p) (at-place (c .call-at .result)) =
