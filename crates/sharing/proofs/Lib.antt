@@ -6,4 +6,5 @@ pub mod Serving
 pub mod Entering
 pub mod ByTenths
 pub mod Rounding
+pub mod ByRank
 pub mod OneHanding

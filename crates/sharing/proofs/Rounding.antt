@@ -65,7 +65,7 @@ module _ (w : ℕ → ℕ) (a t : ℕ) (pos : 0 < t) where
       let z = mul-add t (upto part n) n in
       absurd (omega arith))
 
-first-of-two : (a i b j : ℕ) → most-first b j a i ≡ false → (i ≡ j → ⊥) → most-first a i b j ≡ true
+pub first-of-two : (a i b j : ℕ) → most-first b j a i ≡ false → (i ≡ j → ⊥) → most-first a i b j ≡ true
 first-of-two a i b j h n = grind (arith, tells)
 
 before-none : (a i j : ℕ) → i < j → most-first a i 0 j ≡ true

@@ -96,6 +96,11 @@ elsewhere-less f g (suc n) i e l h = cases (cases-lt (g n) (f n))
     (λ at. absurd (let x : f i ≡ f n = ap f at in let y : g i ≡ g n = ap g at in omega arith))
     (λ at. let s = elsewhere-less f g n i (omega arith) (omega arith) h in (s .0, (let k = s .1 in omega arith), s .2))))
 
+-- A sum that is nowhere more, and less at some place, is less.
+pub upto-lt : (f g : ℕ → ℕ) (n i : ℕ) → ((j : ℕ) → j < n → f j ≤ g j) → i < n → f i < g i → upto f n < upto g n
+upto-lt f g n i le l less = cases (cases-lt (upto f n) (upto g n)) (λ h. h)
+    (λ h. absurd (let o = elsewhere-less f g n i (omega (arith, upto-le f g n le)) l less in omega (arith, le (o .0) (o .1), o .2)))
+
 -- Two answers with one sum are the same where no two places can differ in opposite ways.
 pub only-one : (f g : ℕ → ℕ) (n : ℕ) → upto f n ≡ upto g n →
     ((a b : ℕ) → a < n → b < n → g a < f a → f b < g b → ⊥) → (i : ℕ) → i < n → f i ≡ g i

@@ -1,4 +1,5 @@
 -- The places of a row, at most 64: what stands at each, and sums over them. Assumes nothing.
+use mathlib.Core.Bool.{Bool, cond}
 use mathlib.Core.List.{List, map}
 use Prim.Native.Nat.{ℕ, zero, suc, _+_}
 use lib.ListN.{getD}
@@ -11,6 +12,10 @@ upto f (suc n) = upto f n + f n
 -- The sum over the 64 places.
 abbrev pub total : (ℕ → ℕ) → ℕ
 total f = upto f 64
+
+-- One where the test holds, so that a sum counts the places where it does.
+abbrev pub one-if : Bool → ℕ
+one-if test = cond test 1 0
 
 -- The number that a list has at a place: 0 past its end.
 abbrev pub at-place : List ℕ → ℕ → ℕ

@@ -1,10 +1,11 @@
 -- What a share-out is: an amount over parties, by their weights. Assumes nothing.
 use mathlib.Core.Path.{_≡_}
 use mathlib.Core.Logic.{_⊎_}
-use mathlib.Core.Bool.{true}
-use Prim.Native.Nat.{ℕ, _+_, _*_, _/_, _%_, _<_}
+use mathlib.Core.Bool.{true, cond}
+use Prim.Native.Nat.{ℕ, _+_, _-_, _*_, _/_, _%_, _<_}
+use lib.Dec.{eqb, ltb}
 use Rattle.sharing.specs.Order.{most-first}
-use Rattle.sharing.specs.Places.{total}
+use Rattle.sharing.specs.Places.{total, one-if}
 
 module _ (weights : ℕ → ℕ) (amount : ℕ) where
   -- What is due to the party numbered i, rounded down.
@@ -14,6 +15,18 @@ module _ (weights : ℕ → ℕ) (amount : ℕ) where
   -- What the rounding leaves of it.
   abbrev pub left-of : ℕ → ℕ
   left-of i = amount * weights i % total weights
+
+  -- How many are left over once every party has its part.
+  abbrev pub odd : ℕ
+  odd = amount - total part-of
+
+  -- How many of the 64 parties come before the party i in the order of remainders.
+  unfoldable pub ahead-of : ℕ → ℕ
+  ahead-of i = total (λ j. one-if (most-first (left-of j) j (left-of i) i))
+
+  -- What the party i gets: its part, and one more where fewer come before it than are left over; nothing where nobody weighs anything.
+  unfoldable pub share-of : ℕ → ℕ
+  share-of i = cond (eqb (total weights) 0) 0 (part-of i + one-if (ltb (ahead-of i) odd))
 
   -- Each party has its part or one more, the shares add up to the amount, and whoever has one more comes before whoever has not.
   pub record SharedOut (shares : ℕ → ℕ) : Type 0 where

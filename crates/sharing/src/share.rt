@@ -7,7 +7,7 @@ ghost use Rattle.sharing.specs.Entered.{Rounded};
 ghost use Rattle.sharing.specs.Kinds.{by-remainder};
 ghost use Rattle.sharing.specs.Places.{upto, total, at-place, by-place};
 ghost use Rattle.sharing.specs.Rows.{weights};
-ghost use Rattle.sharing.specs.Shares.{Shared, OnlyShares, part-of};
+ghost use Rattle.sharing.specs.Shares.{Shared, OnlyShares, part-of, share-of};
 ghost use Rattle.sharing.specs.Waiting.{waiting, room, Orderly};
 use super::hand::hand_out;
 use super::handed::Handed;
@@ -76,6 +76,7 @@ fn added(parts: &[u64; 64], odd: &[u64; 64]) -> [u64; 64]
 pub fn share_out<P: Party>(amount: u64, parties: &Row<'_, P>) -> Shares
     ensures shared { λ r. ⌜ Shared (weights heft (now (parties .entry))) amount (at-place (r .parts)) (r .uncarried) ⌝ }
     ensures only { λ r. ⌜ (0 < total (weights heft (now (parties .entry))) → OnlyShares (weights heft (now (parties .entry))) amount (at-place (r .parts))) ⌝ }
+    ensures value { λ r. ⌜ ((i : ℕ) → i < 64 → at-place (r .parts) i ≡ share-of (weights heft (now (parties .entry))) amount i) ⌝ }
     ensures adds { λ r. ⌜ total (at-place (r .parts)) + r .uncarried ≡ amount ⌝ }
     ensures weightless { λ r. ⌜ ((i : ℕ) → weights heft (now (parties .entry)) i ≡ 0 → at-place (r .parts) i ≡ 0) ⌝ }
 {

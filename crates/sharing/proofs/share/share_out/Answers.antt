@@ -5,7 +5,8 @@ use lib.ListN.{length}
 use Rattle.std.proofs.shelf.Lists.{getD-past}
 use Rattle.std.proofs.shelf.Tests.{cases-lt}
 use Rattle.sharing.specs.Places.{total, at-place, by-place}
-use Rattle.sharing.specs.Shares.{Shared, OnlyShares, SharedOut}
+use Rattle.sharing.specs.Shares.{Shared, OnlyShares, SharedOut, share-of}
+use Rattle.sharing.proofs.ByRank.{is-share-of, share-weightless}
 use Rattle.sharing.proofs.Rounding.{none-left, both-fit, shared, only-shares, none-for-none}
 use Rattle.sharing.proofs.Sums.{cases, zeros, upto-zero, upto-at, by-place-past}
 use Rattle.sharing.proofs.share.share_out.Needs as need
@@ -18,6 +19,7 @@ returns-then-weight-eq0 g c =
     record {
       shared = record { carried = λ pos. absurd (omega arith); weightless = λ _. (zeros 64, refl) };
       only = λ pos. absurd (omega arith);
+      value = λ i l. zeros 64 i ∙ sym (share-weightless _ (c .args .amount) none i);
       adds = let z = upto-zero _ 64 (λ i l. zeros 64 i) in omega arith;
       weightless = λ i _. zeros 64 i;
     }
@@ -62,11 +64,12 @@ returns g c =
     let all : SharedOut w a s =
     shared w a _ _ (length ps) _ _ _ pos (c .items-items .ensures .few) (by-place-past heft ps) (r .rounded) (r .left) (h .handed (r .orderly) apart) (h .adds) (h .exhausted (r .orderly) apart) s sums in
     let Outcome : (ℕ → ℕ) → Type 0 = λ v.
-    Shared v a s (c .hand-out-odd .result .left) × (0 < total v → OnlyShares v a s) × ((i : ℕ) → v i ≡ 0 → s i ≡ 0) in
+    Shared v a s (c .hand-out-odd .result .left) × (0 < total v → OnlyShares v a s) × ((i : ℕ) → i < 64 → s i ≡ share-of v a i) × ((i : ℕ) → v i ≡ 0 → s i ≡ 0) in
     let out : Outcome w = (
       record { carried = λ _. (all, none); weightless = λ z. absurd (omega arith) },
       λ _ other is i l. only-shares w a other s is all i l,
+      is-share-of w a pos s all,
       λ i z. cases (cases-lt i 64) (λ l. none-for-none w a s pos all i l z) (λ past. getD-past (c .added .result) i 0 (let l = c .added .ensures .0 in omega arith)),
     ) in
     let out′ : Outcome (by-place heft (c .args .parties .now .items .now)) = subst (λ l. Outcome (by-place heft l)) same out in
-    record { shared = out′ .0; only = out′ .1; adds = omega (arith, all .adds); weightless = out′ .2 }
+    record { shared = out′ .0; only = out′ .1; value = out′ .2; adds = omega (arith, all .adds); weightless = out′ .3 }
