@@ -1,0 +1,2 @@
+-- The lemmas of the worked cases.
+pub mod Checked
