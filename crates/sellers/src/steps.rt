@@ -55,6 +55,21 @@ impl StepOffer {
     {
         up_to(&self.steps[0..self.count as usize], price)
     }
+
+    // How many steps there are.
+    pub fn count(self) -> u8
+        ensures value { λ r. ⌜ r ≡ self .count ⌝ }
+        ensures most { λ r. ⌜ r ≤ 8 ⌝ }
+    {
+        self.count
+    }
+
+    // The steps, and after them some that nothing reads.
+    pub fn steps(self) -> [Step; 8]
+        ensures { λ r. ⌜ r ≡ self .steps ⌝ }
+    {
+        self.steps
+    }
 }
 
 // Whether no price is above 60.
