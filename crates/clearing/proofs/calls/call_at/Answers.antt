@@ -57,8 +57,8 @@ joined-requires g c κs =
     let enough = room-enough (curves-at power row) law (by-place heft row) p (c .args .brought) least _ _ is-low is-room in
     let none = handed .whole heavy (let s = c .sum .ensures in let b = c .from .ensures in omega arith) in
     λ i l.
-        let f = call-fits (curves-at power row) law (by-place heft row) p (c .args .brought) least _ _ is-low is-room _ (handed .shared heavy) (let s = c .sum .ensures in let b = c .from .ensures in let a = handed .adds in omega arith) i in
-        omega arith
+    let f = call-fits (curves-at power row) law (by-place heft row) p (c .args .brought) least _ _ is-low is-room _ (handed .shared heavy) (let s = c .sum .ensures in let b = c .from .ensures in let a = handed .adds in omega arith) i in
+    omega arith
 
 pub returns : need.returns
 returns g c =
@@ -76,12 +76,12 @@ returns g c =
     let enough = room-enough (curves-at power row) law (by-place heft row) p (c .args .brought) least _ _ is-low is-room in
     let none = handed .whole heavy (let s = c .sum .ensures in let b = c .from .ensures in omega arith) in
     let sums : (i : ℕ) → at-place (c .joined .result) i ≡ at-place (c .below-low .result) i + at-place (c .share-tenths-handed .result .given) i =
-        λ i. cases (cases-lt i 64) (c .joined .ensures .1 i)
-        (λ past.
-            let x = getD-past (c .joined .result) i 0 (let l = c .joined .ensures .0 in omega arith) in
-            let y = getD-past (c .below-low .result) i 0 (let l = c .below-low .ensures .places in omega arith) in
-            let z = getD-past (c .share-tenths-handed .result .given) i 0 (let l = c .share-tenths-handed .result .places in omega arith) in
-            omega arith) in
+    λ i. cases (cases-lt i 64) (c .joined .ensures .1 i)
+    (λ past.
+    let x = getD-past (c .joined .result) i 0 (let l = c .joined .ensures .0 in omega arith) in
+    let y = getD-past (c .below-low .result) i 0 (let l = c .below-low .ensures .places in omega arith) in
+    let z = getD-past (c .share-tenths-handed .result .given) i 0 (let l = c .share-tenths-handed .result .places in omega arith) in
+    omega arith) in
     record {
       places = c .joined .ensures .0;
       called = called-at (curves-at power row) law (by-place heft row) p (c .args .brought) least _ _ is-low is-room _ (handed .shared heavy)

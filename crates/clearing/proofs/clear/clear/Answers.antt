@@ -46,7 +46,7 @@ returns g c =
     let p = c .least-price-price .result in
     let least : Least (offered fs) (c .min-brought .result) p = subst (λ l. Least (offered (curves-at power l)) (c .min-brought .result) p) (c .items-items .ensures .same) (c .least-price-price .ensures) in
     let clears : Clears w fs (c .args .wanted) (c .min-brought .result) (Some p) (at-place (c .call-at .result)) =
-        record { brings = brings; priced = ((let n = c .if-brought-eq0 .left in omega arith), least, c .call-at .ensures .called) } in
+    record { brings = brings; priced = ((let n = c .if-brought-eq0 .left in omega arith), least, c .call-at .ensures .called) } in
     record {
       clears = clears;
       only = all-only w fs (c .args .wanted) _ (Some p) _ clears;

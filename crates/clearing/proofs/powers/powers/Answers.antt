@@ -21,12 +21,11 @@ loop-i-again g c =
     let s = c .index-sellers-i .result in
     let in′ : l .i < length (l .all) = let n = inv .0 in omega arith in
     let here = curve-is (g .S·Seller .power) ss (l .i) s (c .loop-i-test .taken) (c .index-sellers-i .is) in
-    let weighs = by-place-is (g .S·Party .heft) ss (l .i) s (c .loop-i-test .taken) (c .index-sellers-i .is) in
-    (
+    let weighs = by-place-is (g .S·Party .heft) ss (l .i) s (c .loop-i-test .taken) (c .index-sellers-i .is) in (
       length-set (l .all) (l .i) _ ∙ inv .0,
       below-more _ _
-      (λ k h. getD-set-other (l .all) (l .i) k _ 0 (omega arith) ∙ inv .1 k h)
-      (getD-set-same (l .all) (l .i) _ 0 in′ ∙ c .curve .ensures .value ∙ ap (λ f. f (min (c .args .price) 60)) (sym here)),
+          (λ k h. getD-set-other (l .all) (l .i) k _ 0 (omega arith) ∙ inv .1 k h)
+          (getD-set-same (l .all) (l .i) _ 0 in′ ∙ c .curve .ensures .value ∙ ap (λ f. f (min (c .args .price) 60)) (sym here)),
       λ k h. getD-set-other (l .all) (l .i) k _ 0 (omega arith) ∙ inv .2 k (omega arith),
       below-more _ _ (inv .3) (subst Weighs (sym weighs) (c .curve .ensures .vouches)),
     )

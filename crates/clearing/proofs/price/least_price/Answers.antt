@@ -13,8 +13,7 @@ loop-low-again-then-offered-from g c =
     let m = (l .low + l .high) / 2 in
     let high = inv .1 in
     let within : min m 60 ≡ m = omega arith in
-    let here : offered fs m < c .args .brought = let e = ap (offered fs) within in omega arith in
-    (
+    let here : offered fs m < c .args .brought = let e = ap (offered fs) within in omega arith in (
       omega arith,
       inv .1,
       inv .2,
