@@ -52,7 +52,7 @@ not-both o e f = let z : _≡_ {A = Bool} false true = ap isSome (sym e) ∙ f i
 module _ (weights rooms given : ℕ → ℕ) (n : ℕ) (W : List Fraction) (inside : (i : ℕ) → 0 < weights i → i < n) (heavy : (i : ℕ) → 0 < rooms i → 0 < weights i)
     (roomed : Roomed weights rooms n W) (handed : HandedOut by-fraction (λ c. c .number) next-tenth W given) where
   abbrev first-claim : (i : ℕ) → 0 < rooms i → (c : Fraction) × Has W c × (c .had ≡ 0) × (c .weight ≡ weights i) × (c .room ≡ rooms i) × (c .number ≡ i)
-  first-claim i pos = roomed .claims i (inside i (heavy i pos)) (heavy i pos) pos
+  first-claim i pos = roomed .claims i (inside i (heavy i pos)) pos
 
   within : (i : ℕ) → given i ≤ rooms i
   within i = cases (cases-lt 0 (rooms i))
@@ -113,7 +113,9 @@ module _ (weights rooms given : ℕ → ℕ) (n : ℕ) (W : List Fraction) (insi
       absurd (not-both _ (out (o .0) (o .1)) (ap isSome (s .1))))
       (λ h. h)
 
-  pub none-left : (rest left : ℕ) → total given + left ≡ rest → rest ≤ total rooms → (0 < left → Exhausted (λ c. c .number) next-tenth W given) → left ≡ 0
-  none-left rest left adds enough out = cases (cases-lt 0 left)
+  pub left-is : (rest left : ℕ) → total given + left ≡ rest → (0 < left → Exhausted (λ c. c .number) next-tenth W given) → left ≡ rest - total rooms
+  left-is rest left adds out =
+      let w = upto-le given rooms 64 (λ i l. within i) in
+      cases (cases-lt 0 left)
       (λ some. let f = upto-le rooms given 64 (λ i l. full (out some) i) in omega arith)
       (λ none. omega arith)

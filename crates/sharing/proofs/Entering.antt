@@ -10,10 +10,11 @@ use Rattle.std.specs.shelf.Lists.{All, Has, sumBy}
 use Rattle.std.proofs.shelf.Elements.{all-weaker}
 use Rattle.std.proofs.shelf.Sorted.{sumBy-shuffled, has-shuffled, all-shuffled}
 use Rattle.std.proofs.shelf.Sums.{sumBy-cons, sumBy-le}
-use Rattle.std.proofs.shelf.Tests.{cases-eq, eq-eqb, ne-eqb, cond-true, cond-false}
+use Rattle.std.proofs.shelf.Tests.{cases-lt, cases-eq, eq-eqb, ne-eqb, lt-ltb, le-ltb, cond-true, cond-false}
 use Rattle.std.proofs.shelf.Ways.{tells}
 use Rattle.sharing.specs.Entered.{Below, Roomed, Rounded}
 use Rattle.sharing.specs.Shares.{part-of, left-of}
+use Rattle.sharing.specs.Tenths.{takes}
 use Rattle.sharing.specs.declared.fraction.Fraction.{Fraction}
 use Rattle.sharing.specs.declared.remainder.Remainder.{Remainder}
 use Rattle.sharing.proofs.Serving.{has-here, has-there}
@@ -46,24 +47,38 @@ module _ {C : Type 0} (holder : C → ℕ) where
     inside = all-shuffled _ _ _ moved (omega arith, all-weaker _ _ (λ x l. omega arith) W (was .inside));
   }
 
+module _ (weights rooms : ℕ → ℕ) (i : ℕ) where
+  pub takes-room : 0 < weights i → takes weights rooms i ≡ rooms i
+  takes-room l = cond-true _ (rooms i) 0 (lt-ltb 0 (weights i) l)
+
+  pub takes-some : 0 < takes weights rooms i → (0 < weights i) × (0 < rooms i)
+  takes-some some = cases (cases-lt 0 (weights i))
+      (λ l. (l, omega (arith, takes-room l)))
+      (λ none. absurd (omega (arith, cond-false _ (rooms i) 0 (le-ltb 0 (weights i) none))))
+
+  -- where only parties with a weight have room
+  pub takes-all : (0 < rooms i → 0 < weights i) → takes weights rooms i ≡ rooms i
+  takes-all heavy = cases (cases-lt 0 (weights i)) takes-room
+      (λ none. cases (cases-lt 0 (rooms i)) (λ l. absurd (omega (arith, heavy l))) (λ z. omega (arith, cond-false _ (rooms i) 0 (le-ltb 0 (weights i) none))))
+
 module _ (weights rooms : ℕ → ℕ) where
   pub roomed-none : (W : List Fraction) → W ≡ [] → Roomed weights rooms 0 W
   roomed-none W e = subst (Roomed weights rooms 0) (sym e) record { claims = λ i l. absurd (omega arith); below = below-none _; roomy = tt }
 
-  pub roomed-skip : (n : ℕ) (W : List Fraction) → (0 < weights n → 0 < rooms n → ⊥) → Roomed weights rooms n W → Roomed weights rooms (n + 1) W
+  pub roomed-skip : (n : ℕ) (W : List Fraction) → (0 < rooms n → ⊥) → Roomed weights rooms n W → Roomed weights rooms (n + 1) W
   roomed-skip n W none was = record {
-    claims = λ i l heavy roomy. cases (cases-eq i n)
-        (λ e. absurd (none (subst (λ m. 0 < weights m) e heavy) (subst (λ m. 0 < rooms m) e roomy)))
-        (λ e. was .claims i (omega arith) heavy roomy);
+    claims = λ i l roomy. cases (cases-eq i n)
+        (λ e. absurd (none (subst (λ m. 0 < rooms m) e roomy)))
+        (λ e. was .claims i (omega arith) roomy);
     below = below-skip _ n W (was .below);
     roomy = was .roomy;
   }
 
   pub roomed-more : (n : ℕ) (W W′ : List Fraction) (c : Fraction) → 0 < rooms n → c .had ≡ 0 → c .weight ≡ weights n → c .room ≡ rooms n → c .number ≡ n → Shuffled (c ∷ W) W′ → Roomed weights rooms n W → Roomed weights rooms (n + 1) W′
   roomed-more n W W′ c pos hd wt rm nm moved was = record {
-    claims = λ i l heavy roomy. cases (cases-eq i n)
+    claims = λ i l roomy. cases (cases-eq i n)
         (λ e. (c, has-shuffled _ _ c moved (has-here c W), hd, wt ∙ ap weights (sym e), rm ∙ ap rooms (sym e), nm ∙ sym e))
-        (λ e. let o = was .claims i (omega arith) heavy roomy in (o .0, has-shuffled _ _ (o .0) moved (has-there c W (o .0) (o .1)), o .2, o .3, o .4, o .5));
+        (λ e. let o = was .claims i (omega arith) roomy in (o .0, has-shuffled _ _ (o .0) moved (has-there c W (o .0) (o .1)), o .2, o .3, o .4, o .5));
     below = below-more _ n c W W′ nm moved (was .below);
     roomy = all-shuffled _ _ _ moved (subst (λ m. 0 < rooms m) (sym nm) pos, was .roomy);
   }

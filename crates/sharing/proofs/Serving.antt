@@ -19,7 +19,7 @@ use Rattle.std.proofs.shelf.Elements.{all-weaker}
 use Rattle.std.proofs.shelf.Sorted.{sumBy-shuffled, has-shuffled, all-shuffled, shuffled-sym}
 use Rattle.std.proofs.shelf.Tests.{cases-eq, eq-eqb, eqb-true, cases-lt, cond-true}
 use Rattle.sharing.specs.Order.{First}
-use Rattle.sharing.specs.Handed.{then, after, Apart, HandedOut, Exhausted}
+use Rattle.sharing.specs.Handed.{then, after, Apart, HandedOut, WaitsOn, Exhausted}
 use Rattle.sharing.specs.Waiting.{Serves}
 use Rattle.sharing.proofs.Sums.{cases}
 
@@ -196,6 +196,13 @@ module _ {C : Type 0} (ahead : C → C → Bool) (holder : C → ℕ) (next : C 
     order = λ x y c d j k hx hy l n e f.
         let t = tail (m (holder y)) k y d n f in
         ranks .chain d (t .0) c (t .2) (was .before x c (t .0) j hx l e (was .waits y (t .0) hy (t .1)));
+  }
+
+  pub waits-on : (H : List C) (m : ℕ → ℕ) (W : List C) → Serving H m W → WaitsOn holder next H m W
+  waits-on H m W was = record {
+    stays = was .waits;
+    from = λ c hc. let o = was .held c hc in (o .0, o .1, ap (λ i. after next (m i) (o .0)) (o .2) ∙ was .origin (o .0) c (o .1) hc (o .2));
+    apart = was .apart;
   }
 
   pub all-served : (H : List C) (m : ℕ → ℕ) (W : List C) → W ≡ [] → Serving H m W → Exhausted holder next H m

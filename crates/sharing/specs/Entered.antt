@@ -13,9 +13,9 @@ pub record Below {C : Type 0} (holder : C → ℕ) (n : ℕ) (waits : List C) : 
   pub apart : Apart holder waits
   pub inside : All (λ c. holder c < n) waits
 
--- Of the first n parties, each that has a weight and room waits for its first tenth, and nobody else waits.
+-- Of the first n parties, each that has room waits for its first tenth, and nobody else waits.
 pub record Roomed (weights rooms : ℕ → ℕ) (n : ℕ) (waits : List Fraction) : Type 0 where
-  pub claims : (i : ℕ) → i < n → 0 < weights i → 0 < rooms i → (c : Fraction) × Has waits c × (c .had ≡ 0) × (c .weight ≡ weights i) × (c .room ≡ rooms i) × (c .number ≡ i)
+  pub claims : (i : ℕ) → i < n → 0 < rooms i → (c : Fraction) × Has waits c × (c .had ≡ 0) × (c .weight ≡ weights i) × (c .room ≡ rooms i) × (c .number ≡ i)
   pub below : Below (λ c. c .number) n waits
   pub roomy : All (λ c. 0 < rooms (c .number)) waits
 

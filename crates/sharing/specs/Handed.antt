@@ -29,6 +29,12 @@ pub record HandedOut {C : Type 0} (ahead : C → C → Bool) (holder : C → ℕ
   pub others : (i : ℕ) → ((x : C) → Has xs x → holder x ≡ i → ⊥) → given i ≡ 0
   pub order : (x y c d : C) (j k : ℕ) → Has xs x → Has xs y → j < given (holder x) → given (holder y) ≤ k → after next j x ≡ Some c → after next k y ≡ Some d → ahead d c ≡ false
 
+-- What is left waiting once each holder i has been given `given i` units of the claims xs: for each of these the claim that it has become, if any, and nothing else.
+pub record WaitsOn {C : Type 0} (holder : C → ℕ) (next : C → Option C) (xs : List C) (given : ℕ → ℕ) (ys : List C) : Type 0 where
+  pub stays : (x c : C) → Has xs x → after next (given (holder x)) x ≡ Some c → Has ys c
+  pub from : (c : C) → Has ys c → (x : C) × Has xs x × (after next (given (holder x)) x ≡ Some c)
+  pub apart : Apart holder ys
+
 -- Every claim in xs, and each that followed it, was served.
 abbrev pub Exhausted : {C : Type 0} → (C → ℕ) → (C → Option C) → List C → (ℕ → ℕ) → Type 0
 Exhausted {C} holder next xs given = (x : C) → Has xs x → after next (given (holder x)) x ≡ None

@@ -1,13 +1,13 @@
 // Tenths handed out by the fraction rule among the parties that have room for them.
 ghost use mathlib.Core.Path.{_≡_};
 ghost use mathlib.Core.List.{[]};
-ghost use Prim.Native.Nat.{ℕ, _+_, _<_, _≤_};
+ghost use Prim.Native.Nat.{_+_, _-_, _≤_};
 ghost use lib.ListN.{length};
 ghost use Rattle.sharing.specs.Entered.{Roomed};
 ghost use Rattle.sharing.specs.Kinds.{by-fraction};
 ghost use Rattle.sharing.specs.Places.{total, at-place, by-place};
 ghost use Rattle.sharing.specs.Rows.{weights};
-ghost use Rattle.sharing.specs.Tenths.{ByFraction, OnlyTenths};
+ghost use Rattle.sharing.specs.Tenths.{ByFraction, OnlyTenths, takes};
 ghost use Rattle.sharing.specs.Waiting.{waiting, room, Orderly};
 use super::fraction::Fraction;
 use super::hand::hand_out;
@@ -24,7 +24,7 @@ fn enter_rooms<P: Party>(parties: &[P], rooms: &[u32; 64], list: &mut WaitingLis
     requires empty { ⌜ waiting (now list) ≡ [] ⌝ }
     requires room { ⌜ room (now list) ≡ 64 ⌝ }
     ensures orderly { λ _. ⌜ Orderly by-fraction (now (list .exit)) ⌝ }
-    ensures roomed { λ _. ⌜ Roomed (by-place heft (now (parties .entry))) (at-place (now (rooms .entry))) (length (now (parties .entry))) (waiting (now (list .exit))) ⌝ }
+    ensures roomed { λ _. ⌜ Roomed (by-place heft (now (parties .entry))) (takes (by-place heft (now (parties .entry))) (at-place (now (rooms .entry)))) (length (now (parties .entry))) (waiting (now (list .exit))) ⌝ }
 {
     for (i, party) in parties.iter().enumerate() {
         let weight = party.weight();
@@ -40,12 +40,12 @@ fn enter_rooms<P: Party>(parties: &[P], rooms: &[u32; 64], list: &mut WaitingLis
     }
 }
 
-// Gives `rest` tenths out, and says how many found no room. Only parties with a weight may have room.
+// Gives `rest` tenths out by the fraction rule, and says how many found no room. A party without a weight takes none.
 pub fn share_tenths<P: Party>(parties: &Row<'_, P>, rooms: &[u32; 64], rest: u64) -> Handed
     ensures adds { λ r. ⌜ total (at-place (r .given)) + r .left ≡ rest ⌝ }
-    ensures shared { λ r. ⌜ (((i : ℕ) → 0 < at-place (now (rooms .entry)) i → 0 < weights heft (now (parties .entry)) i) → ByFraction (weights heft (now (parties .entry))) (at-place (now (rooms .entry))) (at-place (r .given))) ⌝ }
-    ensures only { λ r. ⌜ (((i : ℕ) → 0 < at-place (now (rooms .entry)) i → 0 < weights heft (now (parties .entry)) i) → OnlyTenths (weights heft (now (parties .entry))) (at-place (now (rooms .entry))) (at-place (r .given))) ⌝ }
-    ensures whole { λ r. ⌜ (((i : ℕ) → 0 < at-place (now (rooms .entry)) i → 0 < weights heft (now (parties .entry)) i) → rest ≤ total (at-place (now (rooms .entry))) → r .left ≡ 0) ⌝ }
+    ensures left { λ r. ⌜ r .left ≡ rest - total (takes (weights heft (now (parties .entry))) (at-place (now (rooms .entry)))) ⌝ }
+    ensures shared { λ r. ⌜ ByFraction (weights heft (now (parties .entry))) (takes (weights heft (now (parties .entry))) (at-place (now (rooms .entry)))) (at-place (r .given)) ⌝ }
+    ensures only { λ r. ⌜ OnlyTenths (weights heft (now (parties .entry))) (takes (weights heft (now (parties .entry))) (at-place (now (rooms .entry)))) (at-place (r .given)) ⌝ }
 {
     let mut slots = [Fraction {
         had: 0,

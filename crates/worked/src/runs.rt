@@ -42,7 +42,7 @@ fn two_units() -> Option<[Unit; 2]> {
 }
 
 // Both units cleared for what is wanted: what they bring, the price, and their calls.
-fn cleared(wanted: u32) -> Option<(u32, Option<u8>, u32, u32)> {
+fn cleared(wanted: u64) -> Option<(u32, Option<u8>, u32, u32)> {
     let units = two_units()?;
     let row = Row::new(&units)?;
     let answer = clear(&row, wanted);

@@ -6,7 +6,8 @@ use lib.ListN.{length}
 use Rattle.std.proofs.shelf.Lists.{getD-past}
 use Rattle.std.proofs.shelf.Tests.{cases-lt}
 use Rattle.sharing.specs.Places.{total, at-place, by-place}
-use Rattle.sharing.specs.Tenths.{ByFraction}
+use Rattle.sharing.specs.Tenths.{ByFraction, takes}
+use Rattle.sharing.proofs.Entering.{takes-all}
 use Rattle.sharing.proofs.Sums.{cases}
 use Rattle.sellers.specs.Curves.{Weighs}
 use Rattle.clearing.specs.Calls.{under}
@@ -28,6 +29,9 @@ module _ {S : Type 0} (power : S → ℕ → ℕ) (heft : S → ℕ) (items row 
   heavy-of is weighs i some = cases (cases-lt i (length row))
       (λ l. let w = subst (λ xs. i < length xs → Weighs (by-place heft xs i)) same (weighs i) l in w .some)
       (λ past. absurd (let z = is i in let e = ap (λ f. f p) (curve-past power row i past) in omega arith))
+
+takes-open : (weights rooms : ℕ → ℕ) → ((i : ℕ) → 0 < rooms i → 0 < weights i) → takes weights rooms ≡ rooms
+takes-open weights rooms heavy = λ k i. takes-all weights rooms i (heavy i) k
 
 pub sub-rest : need.sub-rest
 sub-rest g c =
@@ -55,9 +59,11 @@ joined-requires g c κs =
     let heavy = heavy-of power heft _ row same p (c .below-low .result) (c .powers .result) (c .between-rooms .result) is-room (c .powers .ensures .weighs) in
     let handed = c .share-tenths-handed .ensures in
     let enough = room-enough (curves-at power row) law (by-place heft row) p (c .args .brought) least _ _ is-low is-room in
-    let none = handed .whole heavy (let s = c .sum .ensures in let b = c .from .ensures in omega arith) in
+    let wide = takes-open (by-place heft row) (at-place (c .between-rooms .result)) heavy in
+    let none : c .share-tenths-handed .result .left ≡ 0 = let s = c .sum .ensures in let b = c .from .ensures in let l = handed .left in let t = ap total wide in omega arith in
+    let fair = subst (λ (r : ℕ → ℕ). ByFraction (by-place heft row) r (at-place (c .share-tenths-handed .result .given))) wide (handed .shared) in
     λ i l.
-    let f = call-fits (curves-at power row) law (by-place heft row) p (c .args .brought) least _ _ is-low is-room _ (handed .shared heavy) (let s = c .sum .ensures in let b = c .from .ensures in let a = handed .adds in omega arith) i in
+    let f = call-fits (curves-at power row) law (by-place heft row) p (c .args .brought) least _ _ is-low is-room _ fair (let s = c .sum .ensures in let b = c .from .ensures in let a = handed .adds in omega arith) i in
     omega arith
 
 pub returns : need.returns
@@ -74,7 +80,9 @@ returns g c =
     let heavy = heavy-of power heft _ row same p (c .below-low .result) (c .powers .result) (c .between-rooms .result) is-room (c .powers .ensures .weighs) in
     let handed = c .share-tenths-handed .ensures in
     let enough = room-enough (curves-at power row) law (by-place heft row) p (c .args .brought) least _ _ is-low is-room in
-    let none = handed .whole heavy (let s = c .sum .ensures in let b = c .from .ensures in omega arith) in
+    let wide = takes-open (by-place heft row) (at-place (c .between-rooms .result)) heavy in
+    let none : c .share-tenths-handed .result .left ≡ 0 = let s = c .sum .ensures in let b = c .from .ensures in let l = handed .left in let t = ap total wide in omega arith in
+    let fair = subst (λ (r : ℕ → ℕ). ByFraction (by-place heft row) r (at-place (c .share-tenths-handed .result .given))) wide (handed .shared) in
     let sums : (i : ℕ) → at-place (c .joined .result) i ≡ at-place (c .below-low .result) i + at-place (c .share-tenths-handed .result .given) i =
     λ i. cases (cases-lt i 64) (c .joined .ensures .1 i)
     (λ past.
@@ -84,6 +92,6 @@ returns g c =
     omega arith) in
     record {
       places = c .joined .ensures .0;
-      called = called-at (curves-at power row) law (by-place heft row) p (c .args .brought) least _ _ is-low is-room _ (handed .shared heavy)
+      called = called-at (curves-at power row) law (by-place heft row) p (c .args .brought) least _ _ is-low is-room _ fair
           (let s = c .sum .ensures in let b = c .from .ensures in let a = handed .adds in omega arith) _ sums;
     }

@@ -1,11 +1,12 @@
-use mathlib.Core.Path.{_≡_, sym, subst}
+use mathlib.Core.Path.{_≡_, subst}
 use native.Mathlib.Omega.{arith}
-use Prim.Native.Nat.{ℕ, _<_}
+use Prim.Native.Nat.{ℕ, _-_, _<_}
 use lib.ListN.{length}
 use Rattle.std.proofs.shelf.Tests.{cases-lt}
-use Rattle.sharing.specs.Places.{at-place, by-place}
-use Rattle.sharing.specs.Tenths.{ByFraction}
-use Rattle.sharing.proofs.ByTenths.{follows-rule, none-left}
+use Rattle.sharing.specs.Places.{total, at-place, by-place}
+use Rattle.sharing.specs.Tenths.{ByFraction, takes}
+use Rattle.sharing.proofs.ByTenths.{follows-rule, left-is}
+use Rattle.sharing.proofs.Entering.{takes-some}
 use Rattle.sharing.proofs.OneHanding.{one-handing}
 use Rattle.sharing.proofs.Sums.{cases, by-place-past}
 use Rattle.sharing.proofs.tenths.share_tenths.Needs as need
@@ -15,20 +16,20 @@ returns g c =
     let r = c .enter-rooms .ensures in
     let h = c .hand-out .ensures in
     let heft = g .P·Party .heft in
-    let rooms = at-place (c .args .rooms .now) in
     let ps = c .items .result .now in
     let same : ps ≡ c .args .parties .now .items .now = c .items .ensures .same in
-    let inside : (i : ℕ) → 0 < by-place heft ps i → i < length ps =
+    let w = by-place heft ps in
+    let fit = takes w (at-place (c .args .rooms .now)) in
+    let inside : (i : ℕ) → 0 < w i → i < length ps =
     λ i pos. cases (cases-lt i (length ps)) (λ l. l) (λ past. absurd (omega (arith, by-place-past heft ps i past))) in
-    let back : ((i : ℕ) → 0 < rooms i → 0 < by-place heft (c .args .parties .now .items .now) i) → (i : ℕ) → 0 < rooms i → 0 < by-place heft ps i =
-    λ heavy i pos. subst (λ l. 0 < by-place heft l i) (sym same) (heavy i pos) in
+    let heavy : (i : ℕ) → 0 < fit i → 0 < w i = λ i some. takes-some w (at-place (c .args .rooms .now)) i some .0 in
     let handed = h .handed (r .orderly) (r .roomed .below .apart) in
-    let fair : ((i : ℕ) → 0 < rooms i → 0 < by-place heft (c .args .parties .now .items .now) i) → ByFraction (by-place heft (c .args .parties .now .items .now)) rooms (at-place (c .hand-out .result .given)) =
-    λ heavy. subst (λ l. ByFraction (by-place heft l) rooms (at-place (c .hand-out .result .given))) same
-    (follows-rule _ rooms _ (length ps) _ inside (back heavy) (r .roomed) handed) in
-    record {
-      adds = h .adds;
-      shared = fair;
-      only = λ heavy other is sums. one-handing _ rooms other _ is (fair heavy) sums;
-      whole = λ heavy enough. none-left _ rooms _ (length ps) _ inside (back heavy) (r .roomed) handed _ _ (h .adds) enough (h .exhausted (r .orderly) (r .roomed .below .apart));
-    }
+    let given = at-place (c .hand-out .result .given) in
+    let Outcome : (ℕ → ℕ) → Type 0 = λ v.
+    (c .hand-out .result .left ≡ c .args .rest - total (takes v (at-place (c .args .rooms .now)))) × ByFraction v (takes v (at-place (c .args .rooms .now))) given in
+    let out : Outcome w = (
+      left-is w fit _ (length ps) _ inside heavy (r .roomed) handed _ _ (h .adds) (h .exhausted (r .orderly) (r .roomed .below .apart)),
+      follows-rule w fit _ (length ps) _ inside heavy (r .roomed) handed,
+    ) in
+    let out′ : Outcome (by-place heft (c .args .parties .now .items .now)) = subst (λ l. Outcome (by-place heft l)) same out in
+    record { adds = h .adds; left = out′ .0; shared = out′ .1; only = λ other is sums. one-handing _ _ other _ is (out′ .1) sums }
