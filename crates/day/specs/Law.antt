@@ -1,0 +1,52 @@
+-- The law over all runs. Assumes nothing.
+use mathlib.Core.Path.{_≡_}
+use mathlib.Core.Bool.{false}
+use mathlib.Core.Logic.{_⊎_}
+use mathlib.Core.List.{List, _∷_, _++_}
+use Prim.Native.Nat.{ℕ, _<_}
+use Rattle.std.specs.declared.option.Option.{Option}
+use Rattle.std.specs.declared.option.Option.the-variants.{None}
+use Rattle.money.specs.declared.share.Share.{Share}
+use Rattle.day.specs.declared.book.Book.{Book}
+use Rattle.day.specs.Balance.{Balanced}
+use Rattle.day.specs.Bills.{call-of, price-of, received-of}
+use Rattle.day.specs.Calls.{Answer, Early, Late, clear}
+use Rattle.day.specs.History.{accepted, enrolment, plant-in, on, latest-want, latest-plan, latest-unit-read, latest-plant-read, was-cleared, curve-given}
+use Rattle.day.specs.Reading.{seller-at, plant-at, period-at, cleared-at, brought-in, plan-at, unit-read, plant-read}
+use Rattle.day.specs.Rounds.{Stands}
+use Rattle.day.specs.Runs.{Running}
+use Rattle.day.specs.Terms.{capacity-of}
+
+-- What was brought in a round of a period.
+abbrev pub brought-of : Book → ℕ → ℕ → ℕ
+brought-of b k p = brought-in (cleared-at (period-at b p) k)
+
+-- Of any accepted clearing: what the day answers of that round stands on the sellers and wants that the calls accepted before it give. Of a round with no accepted clearing it answers 0, and no price.
+abbrev pub Rounds : List (Early × Answer) → List ((ℕ × Late) × Answer) → Book → Type 0
+Rounds es ls b =
+    ((p k : ℕ) (after before : List (ℕ × Late)) → accepted ls ≡ after ++ ((p, clear k) ∷ before)
+    → Stands (λ i. capacity-of (enrolment (accepted es) i)) (curve-given (accepted es) (on p before) (call-of b 0 p) k) (latest-want (on p before) k)
+    (brought-of b k p) (price-of b k p) (call-of b k p) (received-of b k p))
+    × ((p k : ℕ) → was-cleared (on p (accepted ls)) k ≡ false →
+    (brought-of b k p ≡ 0) × (price-of b k p ≡ None) × ((i : ℕ) → call-of b k p i ≡ 0) × ((a : ℕ) → received-of b k p a ≡ 0))
+
+-- Who is enrolled as what, the plans and the readings that the day's bills go by are the latest accepted ones.
+abbrev pub Latest : List (Early × Answer) → List ((ℕ × Late) × Answer) → Book → Type 0
+Latest es ls b =
+    ((i : ℕ) → seller-at b i ≡ enrolment (accepted es) i) × ((j : ℕ) → plant-at b j ≡ plant-in (accepted es) j)
+    × ((p k i : ℕ) → p < 96 → plan-at (period-at b p) k i ≡ latest-plan (on p (accepted ls)) k i)
+    × ((p i : ℕ) → p < 96 → unit-read (period-at b p) i ≡ latest-unit-read (on p (accepted ls)) i)
+    × ((p j : ℕ) → p < 96 → plant-read (period-at b p) j ≡ latest-plant-read (on p (accepted ls)) j)
+
+-- The law, of the calls that a day had and of what it answers.
+abbrev pub Law : List (Early × Answer) → List ((ℕ × Late) × Answer) → Book → Type 0
+Law es ls b = Rounds es ls b × Latest es ls b × Balanced b
+
+-- No number or arrangement of calls, accepted or refused, prevents it.
+abbrev pub EveryDay : Type 0
+EveryDay = (s : Share) (es : List (Early × Answer)) (ls : List ((ℕ × Late) × Answer)) (b : Book) → Running s es ls b → Law es ls b
+
+-- A cleared round stays as it is in every day reached later.
+abbrev pub Kept : Type 0
+Kept = (s : Share) (es : List (Early × Answer)) (ls more : List ((ℕ × Late) × Answer)) (b b′ : Book) → Running s es ls b → Running s es (more ++ ls) b′ →
+    (p k : ℕ) → was-cleared (on p (accepted ls)) k ≡ false ⊎ (cleared-at (period-at b′ p) k ≡ cleared-at (period-at b p) k)

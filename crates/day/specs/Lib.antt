@@ -1,0 +1,12 @@
+pub mod Terms
+pub mod Rounds
+pub mod Reading
+pub mod Sound
+pub mod Faults
+pub mod Calls
+pub mod Runs
+pub mod History
+pub mod Bills
+pub mod Balance
+pub mod Law
+pub mod Reached
