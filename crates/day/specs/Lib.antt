@@ -1,5 +1,6 @@
 pub mod Terms
 pub mod Rounds
+pub mod Slots
 pub mod Reading
 pub mod Sound
 pub mod Faults

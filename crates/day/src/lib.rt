@@ -1,6 +1,11 @@
 // One market day: from opening over running to closed, and the law over all runs.
 mod book;
+mod entries;
 mod faults;
+mod opening;
+mod parties;
+mod rounds;
+mod running;
 
 pub use book::Book;
 pub use book::Cleared;
@@ -10,3 +15,5 @@ pub use book::Role;
 pub use book::Round;
 pub use book::Steps;
 pub use faults::Fault;
+pub use opening::OpeningDay;
+pub use running::RunningDay;

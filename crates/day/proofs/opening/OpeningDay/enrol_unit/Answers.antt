@@ -1,0 +1,7 @@
+use borrow.Author.Needs.{needs}
+use Rattle.day.specs.Calls.{enrol-unit}
+use Rattle.day.proofs.Reach.{grow-early}
+use Rattle.day.proofs.opening.OpeningDay.enrol_unit.Needs as need
+
+pub ghost-self : need.ghost-self
+ghost-self c = (search needs, (grow-early (enrol-unit (c .args .seller) (c .args .area) (c .args .capacity) (c .args .floor)) (c .args .self .now .reached) (search needs), tt))
