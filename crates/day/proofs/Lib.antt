@@ -1,0 +1,2 @@
+-- The lemmas of the day.
+pub mod Balances
