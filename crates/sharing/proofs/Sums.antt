@@ -76,6 +76,20 @@ upto-past f m (suc n) l h = cases (cases-eq m (suc n))
     (λ e. ap (upto f) (sym e))
     (λ e. omega (arith, upto-past f m n (omega arith) h, h n (omega arith)))
 
+-- a sum with one term that counts
+pub upto-single : (f : ℕ → ℕ) (n j : ℕ) → j < n → ((i : ℕ) → i < n → (i ≡ j → ⊥) → f i ≡ 0) → upto f n ≡ f j
+unfolding upto
+upto-single f zero j l h = absurd (omega arith)
+upto-single f (suc n) j l h = cases (cases-eq j n)
+    (λ e. let same : f j ≡ f n = ap f e in omega (arith, upto-zero f n (λ i k. h i (omega arith) (λ x. omega arith))))
+    (λ e. omega (arith, upto-single f n j (omega arith) (λ i k. h i (omega arith)), h n (omega arith) (λ x. e (sym x))))
+
+-- a sum of sums, by columns in place of rows
+pub upto-swap : (f : ℕ → ℕ → ℕ) (m n : ℕ) → upto (λ i. upto (λ a. f a i) m) n ≡ upto (λ a. upto (f a) n) m
+unfolding upto
+upto-swap f m zero = sym (upto-zero _ m (λ a l. refl))
+upto-swap f m (suc n) = omega (arith, upto-swap f m n, upto-add (λ a. upto (f a) n) (λ a. f a n) m)
+
 -- a smaller sum is smaller somewhere
 pub somewhere-less : (f g : ℕ → ℕ) (n : ℕ) → upto f n < upto g n → (i : ℕ) × (i < n) × (f i < g i)
 unfolding upto
