@@ -7,7 +7,6 @@ use Rattle.std.specs.declared.option.Option.{Option}
 use Rattle.std.specs.declared.option.Option.the-variants.{Some, None}
 use Rattle.sharing.specs.Order.{least-first}
 use Rattle.sharing.specs.Tenths.{ByFraction}
-use Rattle.sellers.specs.Curves.{Lawful}
 use Rattle.clearing.specs.Calls.{at-price, CalledAt, Priced, Clears}
 
 module _ (weights weights′ : ℕ → ℕ) where
@@ -20,7 +19,7 @@ module _ (weights weights′ : ℕ → ℕ) where
         sym (λ t. least-first j (u t) a k (v t) b) ∙ fair .order a b j k j0 ja kb kr;
   }
 
-  module _ (curves : ℕ → ℕ → ℕ) (lawful : (i : ℕ) → Lawful (curves i)) (same : (i : ℕ) → 0 < curves i 60 → weights i ≡ weights′ i) where
+  module _ (curves : ℕ → ℕ → ℕ) (same : (i q : ℕ) → 0 < curves i q → weights i ≡ weights′ i) where
     same-priced : (brought : ℕ) (price : Option ℕ) (calls : ℕ → ℕ) → Priced weights curves brought price calls → Priced weights′ curves brought price calls
     same-priced brought None calls at = at
     same-priced brought (Some p) calls at = (
@@ -30,7 +29,7 @@ module _ (weights weights′ : ℕ → ℕ) where
         low = at .2 .low;
         high = at .2 .high;
         adds = at .2 .adds;
-        fair = same-rule (λ i. at-price (curves i) p) _ (λ i some. same i (let r = lawful i .rises p 60 (at .1 .within) (omega arith) in omega arith)) (at .2 .fair);
+        fair = same-rule (λ i. at-price (curves i) p) _ (λ i some. same i p (omega arith)) (at .2 .fair);
       },
     )
 
