@@ -1,3 +1,4 @@
 pub mod Writes
 pub mod Agree
 pub mod Days
+pub mod Soundness

@@ -15,7 +15,7 @@ abbrev pub SoundRole : ℕ → Role → Type 0
 SoundRole c (Thermal f None) = f ≤ 10 * c
 SoundRole c (Thermal f (Some ps)) = (f ≤ 10 * c) × TiersFault ps None
 SoundRole c (Pooled None) = Unit {0}
-SoundRole c (Pooled (Some o)) = (o .count ≤ 8) × StepsFault c (take (o .count) (o .steps)) None
+SoundRole c (Pooled (Some o)) = StepsFault c (take (o .count) (o .steps)) None
 
 -- A capacity of 1 to 2,000, and an area there is.
 abbrev pub SoundEntry : Option Enrolled → Type 0
