@@ -71,6 +71,9 @@ Standing es done k e =
 abbrev pub Matched : Option Cleared → Type 0
 Matched o = total (call-in o) ≡ upto (received-in o) 8
 
+pub none-matched : Matched None
+none-matched = upto-zero _ 64 (λ i l. refl) ∙ sym (upto-zero _ 8 (λ a l. refl))
+
 -- the rounds of a period: none before round 0, each matched, each standing on what was accepted before it
 abbrev pub Settled : List Early → List Late → (ℕ → Option Cleared) → Type 0
 Settled es ls done =
@@ -103,7 +106,7 @@ blank-agrees es =
       units = each-same (λ n. n ≡ None) 64 None None refl refl;
       high = refl;
       plants = each-same (λ n. n ≡ 0) 64 0 0 refl refl;
-      rounds = subst (Settled es []) (sym none) (λ _ k. refl, λ k. upto-zero _ 64 (λ i l. refl) ∙ sym (upto-zero _ 8 (λ a l. refl)), λ k e h. absurd h, λ k. refl);
+      rounds = subst (Settled es []) (sym none) (λ _ k. refl, λ k. none-matched, λ k e h. absurd h, λ k. refl);
     }
 
 module _ (es : List Early) (ls : List Late) (q : Period) (k : ℕ) (low : k < 2) (was : Agrees es ls q) where

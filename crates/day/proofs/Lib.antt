@@ -2,3 +2,6 @@ pub mod Writes
 pub mod Agree
 pub mod Days
 pub mod Soundness
+pub mod Law
+pub mod Keeping
+pub mod Reach
