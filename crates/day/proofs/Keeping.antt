@@ -15,7 +15,7 @@ use Rattle.day.specs.declared.faults.Fault.{Fault}
 use Rattle.day.specs.Calls.{Answer, Answered, first-hit, Clearing, Late, plan, want, clear, read-unit, read-plant, Does, plan-checks, want-checks, clear-checks, read-unit-checks, read-plant-checks}
 use Rattle.day.specs.Law.{Kept}
 use Rattle.day.specs.Reading.{no-round, no-period, period-at, cleared-at, with-round, with-period}
-use Rattle.day.specs.Runs.{Later, as-it-is, after-late}
+use Rattle.day.specs.Runs.{as-it-is, after-late}
 use Rattle.day.proofs.Agree.{passed}
 use Rattle.day.proofs.Writes.{part-kept}
 

@@ -1,9 +1,9 @@
 -- The law over all runs, from the agreement of every run's book with its calls.
 use mathlib.Core.Path.{_≡_, refl, sym, ap, subst, _∙_}
-use mathlib.Core.Bool.{Bool, true, false, cond}
+use mathlib.Core.Bool.{true, false, cond}
 use mathlib.Core.List.{List, [], _∷_, _++_}
 use mathlib.Core.Logic.{inl, inr}
-use Prim.Native.Nat.{ℕ, _≤_, _<_}
+use Prim.Native.Nat.{ℕ, _≤_}
 use native.Mathlib.Omega.{arith}
 use lib.Dec.{eqb}
 use Rattle.std.specs.Options.{isSome}
@@ -15,11 +15,10 @@ use Rattle.money.specs.declared.share.Share.{Share}
 use Rattle.day.specs.declared.book.Book.{Book}
 use Rattle.day.specs.declared.book.Cleared.{Cleared}
 use Rattle.day.specs.Balance.{Balanced, Even}
-use Rattle.day.specs.Bills.{unit-area}
 use Rattle.day.specs.Calls.{Answer, Early, Late, plan, want, clear, read-unit, read-plant}
 use Rattle.day.specs.History.{accepted, on}
 use Rattle.day.specs.Law.{Rounds, Latest, EveryDay}
-use Rattle.day.specs.Reading.{no-period, seller-at, plant-at, period-at, cleared-at, call-in, received-in, brought-in, price-in}
+use Rattle.day.specs.Reading.{no-period, period-at, cleared-at, call-in, received-in, brought-in, price-in}
 use Rattle.day.specs.Runs.{Running}
 use Rattle.day.specs.Sound.{AtMost}
 use Rattle.day.proofs.Agree.{ClearedAfter, Matched, none-matched}
@@ -88,4 +87,4 @@ module _ (s : Share) (es : List (Early × Answer)) (ls : List ((ℕ × Late) × 
 
 -- the whole law, where even rounds balance
 pub every-day : ((b : Book) → Even b → Balanced b) → EveryDay
-every-day balances s es ls b run = (rounds s es ls b run, latest s es ls b run, balances b (even s es ls b run))
+every-day balances s es ls b run = let both = every-day-but s es ls b run in (both .0, both .1, balances b (even s es ls b run))

@@ -1,6 +1,6 @@
 -- An accepted call takes a book that is reached to one that is reached, and of every reached book the law holds.
 use mathlib.Core.Logic.{∥∥₁-map}
-use mathlib.Core.List.{List, [], _∷_}
+use mathlib.Core.List.{[], _∷_}
 use Prim.Native.Nat.{ℕ}
 use Rattle.std.specs.declared.result.Result.the-variants.{Ok}
 use Rattle.money.specs.declared.share.Share.{Share}

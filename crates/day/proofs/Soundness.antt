@@ -1,7 +1,7 @@
--- Every book that calls reach is sound, by induction over the run.
+-- Every call keeps a sound book sound, so every book that calls reach is sound.
 use mathlib.Core.Path.{_≡_, refl, sym, subst}
-use mathlib.Core.Bool.{Bool, false, _||_}
-use mathlib.Core.List.{List, [], _∷_}
+use mathlib.Core.Bool.{false, _||_}
+use mathlib.Core.List.{List}
 use Prim.Native.Nat.{ℕ, _*_, _≤_, _<_}
 use native.Mathlib.Omega.{arith}
 use lib.Dec.{eqb, ltb}
@@ -21,12 +21,12 @@ use Rattle.day.specs.declared.book.Role.the-variants.{Thermal, Pooled}
 use Rattle.day.specs.declared.book.Round.{Round}
 use Rattle.day.specs.declared.faults.Fault.{Fault}
 use Rattle.day.specs.Bills.{unit-area}
-use Rattle.day.specs.Calls.{Answer, first-hit, Answered, Checked, as-fault, Enters, Early, enrol-unit, enrol-pool, enrol-plant, offer-unit, offer-pool, Late, plan, want, clear, read-unit, read-plant, enrol-unit-checks, enrol-pool-checks, enrol-plant-checks, offer-unit-checks, offer-pool-checks, plan-checks}
-use Rattle.day.specs.Reading.{no-round, no-period, blank-round, blank, as-role, enrolled, seller-at, period-at, round-at, plan-at, with-round, with-period, with-plan}
+use Rattle.day.specs.Calls.{Answer, first-hit, Answered, Checked, as-fault, Enters, Clearing, Early, enrol-unit, enrol-pool, enrol-plant, offer-unit, offer-pool, Late, plan, want, clear, read-unit, read-plant, enrol-unit-checks, enrol-pool-checks, enrol-plant-checks, offer-unit-checks, offer-pool-checks, plan-checks, want-checks, clear-checks, read-unit-checks, read-plant-checks, EarlyDoes, Does}
+use Rattle.day.specs.Reading.{no-round, no-period, blank-round, blank, as-role, enrolled, seller-at, period-at, round-at, plan-at, with-round, with-period}
 use Rattle.day.specs.Runs.{Opening, opens, then-early, Running, starts, then-late}
 use Rattle.day.specs.Sound.{SoundRole, SoundEntry, AtMost, Sound}
 use Rattle.day.specs.Terms.{Enrolment, nobody, unit, pool, capacity-of, with-prices, with-steps}
-use Rattle.day.proofs.Agree.{passed, step}
+use Rattle.day.proofs.Agree.{passed}
 use Rattle.day.proofs.Writes.{each-same, each-set}
 
 -- a sound entry, by what it says
@@ -85,8 +85,11 @@ unit-low (unit a c f None) h = let l : a < 8 = h .2 in omega arith
 unit-low (unit a c f (Some ps)) h = let l : a < 8 = h .2 in omega arith
 unit-low (pool a c o) h = tt
 
+terms : (b : Book) → Sound b → (i : ℕ) → SoundTerms (seller-at b i)
+terms b was i = entry-terms (getD (b .sellers) i None) (was .0 i)
+
 pub units-low : (b : Book) → Sound b → (i : ℕ) → AtMost 7 (unit-area (seller-at b i))
-units-low b was i = unit-low (seller-at b i) (entry-terms (getD (b .sellers) i None) (was .0 i))
+units-low b was i = unit-low (seller-at b i) (terms b was i)
 
 capacity-fits : (c : ℕ) → (eqb c 0 || ltb 2000 c) ≡ false → (1 ≤ c) × (c ≤ 2000)
 capacity-fits c h = let ne = eqb-false c 0 (or-parts (eqb c 0) (ltb 2000 c) h .0) in (omega arith, ltb-false 2000 c (or-parts (eqb c 0) (ltb 2000 c) h .1))
@@ -115,46 +118,53 @@ round-sound b p k r was new =
     period-sound b p (with-round (period-at b p) k r) was
     (λ j i. each-set (λ x. AtMost 20000 (getD (x .plans) i None)) (period-at b p .rounds) k r no-round (new i) (λ n. was .2 p n i) j)
 
+-- refused, or done
+answered-sound : (o : Option Fault) (b : Book) (New : Book → Type 0) (r : Answer) (n : Book) → Sound b → (o ≡ None → New n → Sound n) → Answered o b New r n → Sound n
+answered-sound None b New r n was does h = does refl (h .1)
+answered-sound (Some x) b New r n was does h = subst Sound (sym (h .1)) was
+
+-- every call keeps the book sound
+
+pub early-sound : (c : Early) (b : Book) (r : Answer) (n : Book) → Sound b → EarlyDoes c b r n → Sound n
+early-sound (enrol-unit i a c m) b r n was =
+    answered-sound (first-hit (enrol-unit-checks b i a c m)) b (Enters b i (unit a c m None)) r n was (λ free.
+    let ok = passed (enrol-unit-checks b i a c m) free in
+    let fits = capacity-fits c (ok .1 .1 .0) in
+    enters-sound b n i (unit a c m None) was (fits .0, fits .1, omega (arith, ltb-false 7 a (ok .1 .1 .1 .1 .0)), ltb-false (10 * c) m (ok .1 .1 .1 .0)))
+early-sound (enrol-pool i a c) b r n was =
+    answered-sound (first-hit (enrol-pool-checks b i a c)) b (Enters b i (pool a c None)) r n was (λ free.
+    let ok = passed (enrol-pool-checks b i a c) free in
+    let fits = capacity-fits c (ok .1 .1 .0) in
+    enters-sound b n i (pool a c None) was (fits .0, fits .1, omega (arith, ltb-false 7 a (ok .1 .1 .1 .0)), tt))
+early-sound (enrol-plant j a) b r n was =
+    answered-sound (first-hit (enrol-plant-checks b j a)) b _ r n was (λ free e.
+    subst Sound (sym e) (was .0, each-set (AtMost 7) (b .plants) j (Some a) None (ltb-false 7 a (passed (enrol-plant-checks b j a) free .0)) (was .1), was .2))
+early-sound (offer-unit i ps) b r n was =
+    offer-sound b n i (with-prices ps (seller-at b i)) r (TiersFault ps) was (prices-sound (seller-at b i) ps (terms b was i)) (first-hit (offer-unit-checks b i))
+early-sound (offer-pool i ss) b r n was =
+    offer-sound b n i (with-steps ss (seller-at b i)) r (StepsFault (capacity-of (seller-at b i)) ss) was (steps-sound (seller-at b i) ss (terms b was i)) (first-hit (offer-pool-checks b i))
+
+pub late-sound : (p : ℕ) (c : Late) (b : Book) (r : Answer) (n : Book) → Sound b → Does p c b r n → Sound n
+late-sound p (plan k i w) b r n was =
+    answered-sound (first-hit (plan-checks b p k i w)) b _ r n was (λ free e.
+    let most = ltb-false (10 * capacity-of (seller-at b i)) w (passed (plan-checks b p k i w) free .1 .1 .1 .1 .0) in
+    let low = capacity-low (seller-at b i) (terms b was i) in
+    subst Sound (sym e) (round-sound b p k _ was (each-set (AtMost 20000) (round-at (period-at b p) k .plans) i (Some w) None (omega arith) (was .2 p k))))
+late-sound p (want k a w) b r n was = answered-sound (first-hit (want-checks b p k a w)) b _ r n was (λ _ e. subst Sound (sym e) (round-sound b p k _ was (was .2 p k)))
+late-sound p (clear k) b r n was = answered-sound (first-hit (clear-checks b p k)) b (Clearing b p k) r n was (λ _ e. subst Sound (sym (e .2)) (round-sound b p k _ was (was .2 p k)))
+late-sound p (read-unit i x) b r n was = answered-sound (first-hit (read-unit-checks b p i x)) b _ r n was (λ _ e. subst Sound (sym e) (period-sound b p _ was (was .2 p)))
+late-sound p (read-plant j x) b r n was = answered-sound (first-hit (read-plant-checks b p j x)) b _ r n was (λ _ e. subst Sound (sym e) (period-sound b p _ was (was .2 p)))
+
+-- and so does every run of them
+
 pub sound-opening : (s : Share) {es : List (Early × Answer)} {b : Book} → Opening s es b → Sound b
 sound-opening s opens = (
   each-same SoundEntry 64 None None tt tt,
   each-same (AtMost 7) 64 None None tt tt,
   λ p k i. each-same (λ q. AtMost 20000 (plan-at q k i)) 96 blank no-period (each-same (λ r. AtMost 20000 (getD (r .plans) i None)) 2 blank-round no-round (each-same (AtMost 20000) 64 None None tt tt i) tt k) tt p,
 )
-sound-opening s (then-early {es = es} {b = b} {b′ = b′} (enrol-unit i a c m) r run h) =
-    step (λ _. Sound) es (enrol-unit i a c m) _ b _ r b′ (sound-opening s run) (λ free n e.
-    let ok = passed (enrol-unit-checks b i a c m) free in
-    let fits = capacity-fits c (ok .1 .1 .0) in
-    enters-sound b n i (unit a c m None) (sound-opening s run) (fits .0, fits .1, omega (arith, ltb-false 7 a (ok .1 .1 .1 .1 .0)), ltb-false (10 * c) m (ok .1 .1 .1 .0)) e) h
-sound-opening s (then-early {es = es} {b = b} {b′ = b′} (enrol-pool i a c) r run h) =
-    step (λ _. Sound) es (enrol-pool i a c) _ b _ r b′ (sound-opening s run) (λ free n e.
-    let ok = passed (enrol-pool-checks b i a c) free in
-    let fits = capacity-fits c (ok .1 .1 .0) in
-    enters-sound b n i (pool a c None) (sound-opening s run) (fits .0, fits .1, omega (arith, ltb-false 7 a (ok .1 .1 .1 .0)), tt) e) h
-sound-opening s (then-early {es = es} {b = b} {b′ = b′} (enrol-plant j a) r run h) =
-    let was = sound-opening s run in
-    step (λ _. Sound) es (enrol-plant j a) _ b _ r b′ was (λ free n e.
-    subst Sound (sym e) (was .0, each-set (AtMost 7) (b .plants) j (Some a) None (ltb-false 7 a (passed (enrol-plant-checks b j a) free .0)) (was .1), was .2)) h
-sound-opening s (then-early {b = b} {b′ = b′} (offer-unit i ps) r run h) =
-    let was = sound-opening s run in
-    offer-sound b b′ i (with-prices ps (seller-at b i)) r (TiersFault ps) was (prices-sound (seller-at b i) ps (entry-terms (getD (b .sellers) i None) (was .0 i))) (first-hit (offer-unit-checks b i)) h
-sound-opening s (then-early {b = b} {b′ = b′} (offer-pool i ss) r run h) =
-    let was = sound-opening s run in
-    offer-sound b b′ i (with-steps ss (seller-at b i)) r (StepsFault (capacity-of (seller-at b i)) ss) was (steps-sound (seller-at b i) ss (entry-terms (getD (b .sellers) i None) (was .0 i))) (first-hit (offer-pool-checks b i)) h
+sound-opening s (then-early {b = b} {b′ = n} c r run h) = early-sound c b r n (sound-opening s run) h
 
 pub sound : (s : Share) {es : List (Early × Answer)} {ls : List ((ℕ × Late) × Answer)} {b : Book} → Running s es ls b → Sound b
 sound s (starts run) = sound-opening s run
-sound s (then-late {ls = ls} {b = b} {b′ = b′} p (plan k i w) r run h) =
-    let was = sound s run in
-    step (λ _. Sound) ls (p, plan k i w) _ b _ r b′ was (λ free n e.
-    let most = ltb-false (10 * capacity-of (seller-at b i)) w (passed (plan-checks b p k i w) free .1 .1 .1 .1 .0) in
-    let low = capacity-low (seller-at b i) (entry-terms (getD (b .sellers) i None) (was .0 i)) in
-    subst Sound (sym e) (round-sound b p k _ was (each-set (AtMost 20000) (round-at (period-at b p) k .plans) i (Some w) None (omega arith) (was .2 p k)))) h
-sound s (then-late {ls = ls} {b = b} {b′ = b′} p (want k a w) r run h) =
-    step (λ _. Sound) ls (p, want k a w) _ b _ r b′ (sound s run) (λ _ n e. subst Sound (sym e) (round-sound b p k _ (sound s run) (sound s run .2 p k))) h
-sound s (then-late {ls = ls} {b = b} {b′ = b′} p (clear k) r run h) =
-    step (λ _. Sound) ls (p, clear k) _ b _ r b′ (sound s run) (λ _ n e. subst Sound (sym (e .2)) (round-sound b p k _ (sound s run) (sound s run .2 p k))) h
-sound s (then-late {ls = ls} {b = b} {b′ = b′} p (read-unit i x) r run h) =
-    step (λ _. Sound) ls (p, read-unit i x) _ b _ r b′ (sound s run) (λ _ n e. subst Sound (sym e) (period-sound b p _ (sound s run) (sound s run .2 p))) h
-sound s (then-late {ls = ls} {b = b} {b′ = b′} p (read-plant j x) r run h) =
-    step (λ _. Sound) ls (p, read-plant j x) _ b _ r b′ (sound s run) (λ _ n e. subst Sound (sym e) (period-sound b p _ (sound s run) (sound s run .2 p))) h
+sound s (then-late {b = b} {b′ = n} p c r run h) = late-sound p c b r n (sound s run) h

@@ -9,11 +9,11 @@ use lib.ListN.{length, getD, set, replicate}
 use lib.Seq.{getD-set-same, getD-set-other}
 use Rattle.std.proofs.shelf.Tests.{cases-eq, eq-eqb, ne-eqb, eqb-true, cond-true, cond-false}
 
-pub push : {X Y : Type 0} (g : X → Y) (β : Bool) (x y : X) → g (cond β x y) ≡ cond β (g x) (g y)
+push : {X Y : Type 0} (g : X → Y) (β : Bool) (x y : X) → g (cond β x y) ≡ cond β (g x) (g y)
 push g true x y = refl
 push g false x y = refl
 
-pub over : {Y : Type 0} (β γ : Bool) (w x y : Y) → (β ≡ true → x ≡ y) → cond β (cond γ w x) y ≡ cond (β && γ) w y
+over : {Y : Type 0} (β γ : Bool) (w x y : Y) → (β ≡ true → x ≡ y) → cond β (cond γ w x) y ≡ cond (β && γ) w y
 over true γ w x y h = ap (cond γ w) (h refl)
 over false γ w x y h = refl
 
