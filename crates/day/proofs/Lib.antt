@@ -5,3 +5,4 @@ pub mod Soundness
 pub mod Law
 pub mod Keeping
 pub mod Reach
+pub mod OneProof
