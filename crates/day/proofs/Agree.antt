@@ -146,16 +146,28 @@ module _ (es : List Early) (ls : List Late) (q : Period) (was : Agrees es ls q) 
   pub after-read-unit : Agrees es (read-unit i x ∷ ls) (with-unit-read q i x)
   after-read-unit =
       record {
-        two = was .two; wide = was .wide; many = was .many; wants = was .wants; plans = was .plans;
+        two = was .two;
+        wide = was .wide;
+        many = was .many;
+        wants = was .wants;
+        plans = was .plans;
         tall = length-set (q .units) i (Some x) ∙ was .tall;
         units = λ j. write (q .units) i (Some x) None (omega (arith, was .tall)) j ∙ ap (cond (eqb i j) (Some x)) (was .units j);
-        high = was .high; plants = was .plants; rounds = was .rounds;
+        high = was .high;
+        plants = was .plants;
+        rounds = was .rounds;
       }
 
   pub after-read-plant : Agrees es (read-plant i x ∷ ls) (with-plant-read q i x)
   after-read-plant =
       record {
-        two = was .two; wide = was .wide; many = was .many; wants = was .wants; plans = was .plans; tall = was .tall; units = was .units;
+        two = was .two;
+        wide = was .wide;
+        many = was .many;
+        wants = was .wants;
+        plans = was .plans;
+        tall = was .tall;
+        units = was .units;
         high = length-set (q .plants) i x ∙ was .high;
         plants = λ j. write (q .plants) i x 0 (omega (arith, was .high)) j ∙ ap (cond (eqb i j) x) (was .plants j);
         rounds = was .rounds;

@@ -15,7 +15,6 @@ use Rattle.day.specs.Reading.{period-at, plan-at}
 use Rattle.day.specs.Sound.{SoundRole, SoundEntry, AtMost, Sound}
 use Rattle.day.proofs.Soundness.{sound, sound-opening}
 
-
 role-prop : (c : ℕ) (r : Role) → IsProp (SoundRole c r)
 role-prop c (Thermal f None) = le-prop
 role-prop c (Thermal f (Some ps)) = λ x y t.
