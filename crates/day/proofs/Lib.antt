@@ -1,3 +1,10 @@
+pub mod Writes
+pub mod Agree
+pub mod Days
+pub mod Soundness
+pub mod Law
+pub mod Keeping
 pub mod Reach
+pub mod OneProof
 pub mod Balances
 pub mod Passing

@@ -1,10 +1,9 @@
 -- The law over all runs. Assumes nothing.
 use mathlib.Core.Path.{_≡_}
-use mathlib.Core.Bool.{false}
-use mathlib.Core.Logic.{_⊎_}
+use mathlib.Core.Bool.{true, false}
 use mathlib.Core.List.{List, _∷_, _++_}
 use Prim.Native.Nat.{ℕ, _<_}
-use Rattle.std.specs.declared.option.Option.{Option}
+use Rattle.std.specs.Options.{isSome}
 use Rattle.std.specs.declared.option.Option.the-variants.{None}
 use Rattle.money.specs.declared.share.Share.{Share}
 use Rattle.day.specs.declared.book.Book.{Book}
@@ -14,7 +13,7 @@ use Rattle.day.specs.Calls.{Answer, Early, Late, clear}
 use Rattle.day.specs.History.{accepted, enrolment, plant-in, on, latest-want, latest-plan, latest-unit-read, latest-plant-read, was-cleared, curve-given}
 use Rattle.day.specs.Reading.{seller-at, plant-at, period-at, cleared-at, brought-in, plan-at, unit-read, plant-read}
 use Rattle.day.specs.Rounds.{Stands}
-use Rattle.day.specs.Runs.{Running}
+use Rattle.day.specs.Runs.{Running, Later}
 use Rattle.day.specs.Terms.{capacity-of}
 
 -- What was brought in a round of a period.
@@ -46,7 +45,6 @@ Law es ls b = Rounds es ls b × Latest es ls b × Balanced b
 abbrev pub EveryDay : Type 0
 EveryDay = (s : Share) (es : List (Early × Answer)) (ls : List ((ℕ × Late) × Answer)) (b : Book) → Running s es ls b → Law es ls b
 
--- A cleared round stays as it is in every day reached later.
+-- A cleared round stays as it is in every later day, whatever calls come after it.
 abbrev pub Kept : Type 0
-Kept = (s : Share) (es : List (Early × Answer)) (ls more : List ((ℕ × Late) × Answer)) (b b′ : Book) → Running s es ls b → Running s es (more ++ ls) b′ →
-    (p k : ℕ) → was-cleared (on p (accepted ls)) k ≡ false ⊎ (cleared-at (period-at b′ p) k ≡ cleared-at (period-at b p) k)
+Kept = (b b′ : Book) → Later b b′ → (p k : ℕ) → isSome (cleared-at (period-at b p) k) ≡ true → cleared-at (period-at b′ p) k ≡ cleared-at (period-at b p) k

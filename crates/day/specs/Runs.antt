@@ -15,3 +15,8 @@ pub data Opening (s : Share) : List (Early × Answer) → Book → Type 0 where
 pub data Running (s : Share) (es : List (Early × Answer)) : List ((ℕ × Late) × Answer) → Book → Type 0 where
   starts : {b : Book} → Opening s es b → Running s es [] b
   then-late : {ls : List ((ℕ × Late) × Answer)} {b b′ : Book} (p : ℕ) (c : Late) (r : Answer) → Running s es ls b → Does p c b r b′ → Running s es (((p, c), r) ∷ ls) b′
+
+-- The second of two running days comes from the first by some calls, whatever their answers.
+pub data Later (b : Book) : Book → Type 0 where
+  as-it-is : Later b b
+  after-late : {n m : Book} (p : ℕ) (c : Late) (r : Answer) → Later b n → Does p c n r m → Later b m
