@@ -1,5 +1,6 @@
 // One market day: from opening over running to closed, and the law over all runs.
 mod book;
+mod closed;
 mod entries;
 mod faults;
 mod opening;
@@ -14,6 +15,7 @@ pub use book::Period;
 pub use book::Role;
 pub use book::Round;
 pub use book::Steps;
+pub use closed::ClosedDay;
 pub use faults::Fault;
 pub use opening::OpeningDay;
 pub use running::RunningDay;

@@ -119,7 +119,7 @@ fn pool(capacity: u16, offer: Steps) -> Option<Pool>
 
 // A unit's place in a round: empty without an offer.
 fn unit_place(capacity: u16, floor: u16, prices: Option<[u8; 8]>, base: u32) -> Slot<Rest<Bidder>>
-    requires sound { ⌜ ∥ (1 ≤ capacity) × (capacity ≤ 2000) × (base ≤ 20000) × SoundRole capacity (Role.Thermal floor prices) ∥₁ ⌝ }
+    requires sound { ⌜ (1 ≤ capacity) × (capacity ≤ 2000) × (base ≤ 20000) × SoundRole capacity (Role.Thermal floor prices) ⌝ }
     ensures curve { λ r. ⌜ ((q : ℕ) → curve-of r q ≡ elim prices [ None ↦ 0 | Some ps ↦ unit-power capacity floor base ps q ]) ⌝ }
     ensures weight { λ r. ⌜ ((q : ℕ) → 0 < curve-of r q → weight-of r ≡ capacity) ⌝ }
 {
@@ -137,7 +137,7 @@ fn unit_place(capacity: u16, floor: u16, prices: Option<[u8; 8]>, base: u32) -> 
 
 // A pool's place in a round: empty without an offer, and less by what it has been called for.
 fn pool_place(capacity: u16, offer: Option<Steps>, called: u32) -> Slot<Rest<Bidder>>
-    requires sound { ⌜ ∥ (1 ≤ capacity) × (capacity ≤ 2000) × SoundRole capacity (Role.Pooled offer) ∥₁ ⌝ }
+    requires sound { ⌜ (1 ≤ capacity) × (capacity ≤ 2000) × SoundRole capacity (Role.Pooled offer) ⌝ }
     ensures curve { λ r. ⌜ ((q : ℕ) → curve-of r q ≡ elim (steps-of offer) [ None ↦ 0 | Some ss ↦ pool-power ss q - called ]) ⌝ }
     ensures weight { λ r. ⌜ ((q : ℕ) → 0 < curve-of r q → weight-of r ≡ capacity) ⌝ }
 {
@@ -166,7 +166,7 @@ fn want_of(wants: &[u32; 8], area: u8) -> u32
 // The place of a seller in a round: empty without an offer, and where its area wants some.
 fn place(entry: Option<Enrolled>, period: &Period, round: usize, i: usize) -> Slot<Rest<Bidder>>
     requires bounds { ⌜ round < 2 ⌝ ∗ ⌜ i < 64 ⌝ }
-    requires sound { ⌜ ∥ SoundEntry entry × (base-from (plan-at (now period)) (call-in (cleared-at (now period) 0)) round i ≤ 20000) ∥₁ ⌝ }
+    requires sound { ⌜ SoundEntry entry × (base-from (plan-at (now period)) (call-in (cleared-at (now period) 0)) round i ≤ 20000) ⌝ }
     ensures curve { λ r. ⌜ ((q : ℕ) → curve-of r q ≡ curve-in (enrolled entry) (now (period .entry)) round i q) ⌝ }
     ensures weight { λ r. ⌜ ((q : ℕ) → 0 < curve-of r q → weight-of r ≡ capacity-of (enrolled entry)) ⌝ }
 {
@@ -191,7 +191,7 @@ fn places(
     round: usize,
 ) -> [Slot<Rest<Bidder>>; 64]
     requires bounds { ⌜ round < 2 ⌝ }
-    requires sound { ⌜ ∥ ((i : ℕ) → SoundEntry (getD (now sellers) i None)) × ((i : ℕ) → base-from (plan-at (now period)) (call-in (cleared-at (now period) 0)) round i ≤ 20000) ∥₁ ⌝ }
+    requires sound { ⌜ ((i : ℕ) → SoundEntry (getD (now sellers) i None)) × ((i : ℕ) → base-from (plan-at (now period)) (call-in (cleared-at (now period) 0)) round i ≤ 20000) ⌝ }
     ensures places { λ r. ⌜ length r ≡ 64 ⌝ }
     ensures curves { λ r. ⌜ ((i q : ℕ) → i < 64 → curve-of (getD r i Empty) q ≡ curve-in (enrolled (getD (now (sellers .entry)) i None)) (now (period .entry)) round i q) ⌝ }
     ensures weights { λ r. ⌜ ((i q : ℕ) → i < 64 → 0 < curve-of (getD r i Empty) q → weight-of (getD r i Empty) ≡ capacity-of (enrolled (getD (now (sellers .entry)) i None))) ⌝ }
@@ -254,7 +254,7 @@ pub(crate) fn clear_round(
     round: usize,
 ) -> Cleared
     requires bounds { ⌜ round < 2 ⌝ }
-    requires sound { ⌜ ∥ ((i : ℕ) → SoundEntry (getD (now sellers) i None)) × ((i : ℕ) → base-from (plan-at (now period)) (call-in (cleared-at (now period) 0)) round i ≤ 20000) ∥₁ ⌝ }
+    requires sound { ⌜ ((i : ℕ) → SoundEntry (getD (now sellers) i None)) × ((i : ℕ) → base-from (plan-at (now period)) (call-in (cleared-at (now period) 0)) round i ≤ 20000) ⌝ }
     ensures { λ r. ⌜ Stands (λ i. capacity-of (enrolled (getD (now (sellers .entry)) i None))) (λ i. curve-in (enrolled (getD (now (sellers .entry)) i None)) (now (period .entry)) round i) (want-at (now (period .entry)) round) (r .brought) (r .price) (call-in (Some r)) (received-in (Some r)) ⌝ }
 {
     let slots = places(sellers, period, round);

@@ -3,10 +3,14 @@ ghost use mathlib.Core.Path.{_≡_};
 ghost use lib.ListN.{length};
 ghost use Rattle.day.specs.Calls as calls;
 ghost use Rattle.day.specs.Calls.{Does};
-ghost use Rattle.day.specs.Reached.{Opened, Ran};
+ghost use Rattle.day.specs.Balance.{Isolated};
+ghost use Rattle.day.specs.Law.{EveryDay, Kept};
+ghost use Rattle.day.specs.Reached.{Opened, Ran, Accounted};
 use crate::book::Book;
+use crate::closed::ClosedDay;
 use crate::entries::unit_capacity;
 use crate::faults::Fault;
+use crate::rounds::clear_round;
 
 #[derive(Drop)]
 pub struct RunningDay {
@@ -133,5 +137,43 @@ impl RunningDay {
         }
         self.book.periods[period as usize].plants[plant as usize] = energy;
         Ok(())
+    }
+
+    // Clears a round of a period.
+    pub fn clear(&mut self, round: u8, period: u8) -> Result<(), Fault>
+        ensures { λ r. ⌜ Does period (calls.clear round) (now (self .entry) .book) r (now (self .exit) .book) ⌝ }
+    {
+        if round > 1 {
+            return Err(Fault::Round);
+        }
+        if period > 95 {
+            return Err(Fault::Period);
+        }
+        let at = period as usize;
+        let k = round as usize;
+        if let Some(_) = self.book.periods[at].rounds[k].cleared {
+            return Err(Fault::Cleared);
+        }
+        if round == 1 {
+            let Some(_) = self.book.periods[at].rounds[0].cleared else {
+                return Err(Fault::NotCleared);
+            };
+        }
+        let before = self.book.periods[at];
+        let done = clear_round(&self.book.sellers, &before, k);
+        self.book.periods[at].rounds[k].cleared = Some(done);
+        Ok(())
+    }
+
+    // Closes the day. The law over all runs stands here: whatever calls a day has had, in any number and order.
+    pub fn close(self) -> ClosedDay
+        ensures book { λ r. ⌜ r .book ≡ self .book ⌝ }
+        ensures law { λ _. ⌜ EveryDay ⌝ }
+        ensures this { λ r. ⌜ Accounted (r .book) ⌝ }
+        ensures kept { λ _. ⌜ Kept ⌝ }
+        ensures isolated { λ _. ⌜ Isolated ⌝ }
+    {
+        let RunningDay { book } = self;
+        ClosedDay { book }
     }
 }

@@ -37,4 +37,21 @@ returns c =
     (λ past. ap (λ f. f q) (ap (λ xs. curves-at curve-of xs i) same ∙ curve-past curve-of slots i (omega arith))
     ∙ sym (ap (λ o. curve-in (enrolled o) (c .args .period .now) (c .args .round) i q) (getD-past sellers i None (omega arith)))) in
     let all : curves-at curve-of items ≡ gs = λ t i q. is i q t in
-    ?
+    let heft : ℕ → ℕ = by-place weight-of items in
+    let weigh : (i q : ℕ) → 0 < gs i q → heft i ≡ capacity-of (who i) =
+    λ i q some. cases (cases-lt i 64)
+    (λ l. ap (λ xs. by-place weight-of xs i) same ∙ getD-map weight-of slots i Empty 0 (omega arith)
+    ∙ c .places-slots .ensures .weights i q l (let e = c .places-slots .ensures .curves i q l in omega arith))
+    (λ past. absurd (let e = ap (λ o. curve-in (enrolled o) (c .args .period .now) (c .args .round) i q) (getD-past sellers i None (omega arith)) in omega arith)) in
+    let wanted : c .wanted .result ≡ total (want-at (c .args .period .now) (c .args .round)) = c .wanted .ensures in
+    let e = c .clear-cleared .ensures in
+    let clears : Clears heft gs (total (want-at (c .args .period .now) (c .args .round))) _ _ _ =
+    subst (λ n. Clears heft gs n (c .clear-cleared .result .brought) (c .clear-cleared .result .price) (at-place (c .clear-cleared .result .calls))) wanted
+    (subst (λ f. Clears heft f (c .wanted .result) (c .clear-cleared .result .brought) (c .clear-cleared .result .price) (at-place (c .clear-cleared .result .calls))) all (e .clears)) in
+    record {
+      clears = reweighed heft (λ i. capacity-of (who i)) gs weigh _ _ _ _ clears;
+      shared = c .receive-received .ensures .shared;
+      short = subst (λ n. Short gs n (c .clear-cleared .result .brought)) wanted (subst (λ f. Short f (c .wanted .result) (c .clear-cleared .result .brought)) all (e .short));
+      cheapest = subst (λ f. Cheapest f (at-place (c .clear-cleared .result .calls))) all (e .cheapest);
+      settled = subst (λ f. Settled f (c .clear-cleared .result .price) (at-place (c .clear-cleared .result .calls))) all (e .settled);
+    }

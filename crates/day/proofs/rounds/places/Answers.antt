@@ -1,5 +1,4 @@
 use mathlib.Core.Path.{_≡_, ap, sym, subst, _∙_}
-use mathlib.Core.Logic.{∥∥₁-map}
 use native.Mathlib.Omega.{arith}
 use Prim.Native.Nat.{ℕ, _<_}
 use borrow.Author.Count.{below-more}
@@ -13,7 +12,7 @@ use Rattle.day.specs.Terms.{capacity-of}
 use Rattle.day.proofs.rounds.places.Needs as need
 
 pub place-requires : need.place-requires
-place-requires c κs = record { bounds = (c .pre .bounds, c .loop-i-test .taken); sound = ∥∥₁-map (c .pre .sound) (λ s. (s .0 (c .loop-i .i), s .1 (c .loop-i .i))) }
+place-requires c κs = record { bounds = (c .pre .bounds, c .loop-i-test .taken); sound = (c .pre .sound .0 (c .loop-i .i), c .pre .sound .1 (c .loop-i .i)) }
 
 pub loop-i-again : need.loop-i-again
 loop-i-again c =

@@ -1,5 +1,5 @@
 use mathlib.Core.Path.{_≡_, refl, sym, ap, subst, _∙_}
-use mathlib.Core.Logic.{∥∥₁-elim, inr}
+use mathlib.Core.Logic.{inr}
 use borrow.Author.Needs.{needs}
 use lib.ListN.{getD, take}
 use Rattle.std.specs.declared.option.Option.the-variants.{Some, None}
@@ -10,14 +10,15 @@ use Rattle.day.specs.Calls.{offer-pool}
 use Rattle.day.specs.Reading.{enrolled, seller-at}
 use Rattle.day.specs.Terms.{with-steps}
 use Rattle.day.proofs.Passing.{pass-two, rated}
-use Rattle.day.proofs.Reach.{grow-early, opened-sound}
+use Rattle.day.proofs.OneProof.{opened-sound}
+use Rattle.day.proofs.Reach.{grow-early}
 use Rattle.day.proofs.opening.OpeningDay.offer_pool.Needs as need
 
 pub returns-in-rest-new : need.returns-in-rest-new
 returns-in-rest-new c =
     let is = c .in-Some .ensures tt in
-    absurd (∥∥₁-elim (opened-sound (c .args .self .now .reached)) (λ x y. absurd x)
-    (λ sound. c .in-rest-new .ensures tt (subst Weighs (sym (is .1)) (rated (getD (c .args .self .now .book .sellers) (c .args .seller) None) (sound .0 (c .args .seller)) (inr (is .0))))))
+    let sound = opened-sound (c .args .self .now .reached) in
+    absurd (c .in-rest-new .ensures tt (subst Weighs (sym (is .1)) (rated (getD (c .args .self .now .book .sellers) (c .args .seller) None) (sound .0 (c .args .seller)) (inr (is .0)))))
 
 pub ghost-self : need.ghost-self
 ghost-self c =
