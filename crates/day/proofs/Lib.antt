@@ -8,3 +8,6 @@ pub mod Reach
 pub mod OneProof
 pub mod Balances
 pub mod Passing
+pub mod Blank
+pub mod InRows
+pub mod Units

@@ -7,6 +7,7 @@ pub mod Faults
 pub mod Calls
 pub mod Runs
 pub mod History
+pub mod Alike
 pub mod Bills
 pub mod Balance
 pub mod Law

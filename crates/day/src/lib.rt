@@ -1,12 +1,16 @@
 // One market day: from opening over running to closed, and the law over all runs.
+mod bills;
 mod book;
 mod closed;
 mod entries;
 mod faults;
 mod opening;
 mod parties;
+mod penalties;
+mod questions;
 mod rounds;
 mod running;
+mod totals;
 
 pub use book::Book;
 pub use book::Cleared;
@@ -19,3 +23,4 @@ pub use closed::ClosedDay;
 pub use faults::Fault;
 pub use opening::OpeningDay;
 pub use running::RunningDay;
+pub use totals::Totals;

@@ -5,11 +5,10 @@ ghost use Rattle.day.specs.Calls as calls;
 ghost use Rattle.day.specs.Calls.{EarlyDoes};
 ghost use Rattle.day.specs.Reached.{Opened};
 ghost use Rattle.day.specs.Reading.{opened};
+use crate::book::BLANK;
 use crate::book::Book;
 use crate::book::Enrolled;
-use crate::book::Period;
 use crate::book::Role;
-use crate::book::Round;
 use crate::book::Steps;
 use crate::entries::pool_capacity;
 use crate::entries::with_prices;
@@ -21,18 +20,6 @@ use sellers::capacity::Capacity;
 use sellers::step::Step;
 use sellers::steps::StepOffer;
 use sellers::tiers::TierPrices;
-
-const NO_ROUND: Round = Round {
-    wants: [0; 8],
-    plans: [None; 64],
-    cleared: None,
-};
-
-const NO_PERIOD: Period = Period {
-    rounds: [NO_ROUND; 2],
-    units: [None; 64],
-    plants: [0; 64],
-};
 
 #[derive(Drop)]
 pub struct OpeningDay {
@@ -51,7 +38,7 @@ impl OpeningDay {
                 share,
                 sellers: [None; 64],
                 plants: [None; 64],
-                periods: [NO_PERIOD; 96],
+                periods: [BLANK; 96],
             },
         }
     }

@@ -55,7 +55,8 @@ pub(crate) fn called_in(cleared: Option<Cleared>, i: usize) -> u32
 // The base of a unit in a round: as planned for it; if not, 0 day-ahead, and intraday the day-ahead base less the call.
 pub(crate) fn base(period: &Period, round: usize, i: usize) -> u32
     requires { ⌜ round < 2 ⌝ ∗ ⌜ i < 64 ⌝ }
-    ensures { λ r. ⌜ r ≡ base-from (plan-at (now (period .entry))) (call-in (cleared-at (now (period .entry)) 0)) round i ⌝ }
+    ensures value { λ r. ⌜ r ≡ base-from (plan-at (now (period .entry))) (call-in (cleared-at (now (period .entry)) 0)) round i ⌝ }
+    ensures most { λ r. ⌜ r ≤ 65535 ⌝ }
 {
     if let Some(planned) = period.rounds[round].plans[i] {
         return u32::from(planned);

@@ -1,5 +1,6 @@
 // How far a reading is from the plan, and what a unit pays for that.
 ghost use mathlib.Core.Path.{_≡_};
+ghost use Prim.Native.Nat.{_<_, _^_};
 ghost use Rattle.money.specs.Money.{deviation-of, size-of, penalty-of};
 
 // The reading less the planned energy, in kilowatt-hours.
@@ -24,7 +25,8 @@ fn size(reading: u32, plan: u32) -> u64
 
 // What a unit pays where it was called and twice the size of its deviation exceeds the plan.
 pub fn penalty(called: bool, reading: u32, plan: u32) -> u64
-    ensures { λ r. ⌜ r ≡ penalty-of called reading plan ⌝ }
+    ensures value { λ r. ⌜ r ≡ penalty-of called reading plan ⌝ }
+    ensures most { λ r. ⌜ r < 2 ^ 42 ⌝ }
 {
     if !called {
         return 0;

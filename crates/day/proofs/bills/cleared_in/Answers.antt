@@ -1,0 +1,11 @@
+use native.Mathlib.Omega.{arith}
+use mathlib.Core.Path.{_≡_, sym, ap}
+use lib.ListN.{length}
+use Rattle.std.proofs.shelf.Lists.{getD-past}
+use Rattle.day.specs.Reading.{no-round}
+use Rattle.day.proofs.bills.cleared_in.Needs as need
+
+pub returns-then-round-gt1 : need.returns-then-round-gt1
+returns-then-round-gt1 c =
+    let two : length (c .args .rounds .now) ≡ 2 = omega arith in
+    sym (ap (λ r. r .cleared) (getD-past (c .args .rounds .now) (c .args .round) no-round (omega arith)))
