@@ -11,7 +11,7 @@ use Rattle.day.specs.Balance.{Balanced}
 use Rattle.day.specs.Bills.{call-of, price-of, received-of}
 use Rattle.day.specs.Calls.{Answer, Early, Late, clear}
 use Rattle.day.specs.History.{accepted, enrolment, plant-in, on, latest-want, latest-plan, latest-unit-read, latest-plant-read, was-cleared, curve-given}
-use Rattle.day.specs.Reading.{seller-at, plant-at, period-at, cleared-at, brought-in, plan-at, unit-read, plant-read}
+use Rattle.day.specs.Reading.{seller-at, plant-at, period-at, cleared-at, brought-in, want-at, plan-at, unit-read, plant-read}
 use Rattle.day.specs.Rounds.{Stands}
 use Rattle.day.specs.Runs.{Running, Later}
 use Rattle.day.specs.Terms.{capacity-of}
@@ -45,6 +45,14 @@ Law es ls b = Rounds es ls b × Latest es ls b × Balanced b
 abbrev pub EveryDay : Type 0
 EveryDay = (s : Share) (es : List (Early × Answer)) (ls : List ((ℕ × Late) × Answer)) (b : Book) → Running s es ls b → Law es ls b
 
--- A cleared round stays as it is in every later day, whatever calls come after it.
+-- A round of a period has in both days the same clearing, wants and plans.
+pub record Same (b b′ : Book) (p k : ℕ) : Type 0 where
+  pub cleared : cleared-at (period-at b′ p) k ≡ cleared-at (period-at b p) k
+  pub wants : (a : ℕ) → want-at (period-at b′ p) k a ≡ want-at (period-at b p) k a
+  pub plans : (i : ℕ) → plan-at (period-at b′ p) k i ≡ plan-at (period-at b p) k i
+
+-- In every later day, whatever calls come between, every seller is as it was, and so is every round that was cleared.
 abbrev pub Kept : Type 0
-Kept = (b b′ : Book) → Later b b′ → (p k : ℕ) → isSome (cleared-at (period-at b p) k) ≡ true → cleared-at (period-at b′ p) k ≡ cleared-at (period-at b p) k
+Kept =
+    (b b′ : Book) → Later b b′ →
+    ((i : ℕ) → seller-at b′ i ≡ seller-at b i) × ((p k : ℕ) → isSome (cleared-at (period-at b p) k) ≡ true → Same b b′ p k)

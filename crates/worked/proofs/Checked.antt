@@ -21,7 +21,8 @@ use Rattle.sharing.specs.Tenths.{ByFraction}
 use Rattle.sharing.proofs.Sums.{cases, upto-past}
 use Rattle.clearing.specs.Calls.{under, at-price, Priced}
 use Rattle.clearing.specs.Prices.{curves-at, offered}
-use Rattle.worked.specs.Cases.{UnitOf, power-of-unit, Case, cleared, shared, tenths, Holds}
+use Rattle.money.specs.Money.{penalty-of}
+use Rattle.worked.specs.Cases.{UnitOf, power-of-unit, Case, cleared, shared, tenths, penalty, Holds}
 
 -- Every number below n passes.
 abbrev all-below : (ℕ → Bool) → ℕ → Bool
@@ -202,6 +203,7 @@ abbrev passes : Case → Bool
 passes (cleared units wanted brought price calls) = all-pass (clear-tests units wanted brought calls (length units) price)
 passes (shared weights amount shares) = all-pass (share-tests weights amount shares (length weights))
 passes (tenths weights rooms given) = leb (length given) (length rooms) && fraction-passes (at-place weights) (at-place rooms) (at-place given) (length rooms)
+passes (penalty plan reading due) = eqb (penalty-of true reading plan) due
 
 holds : (c : Case) → passes c ≡ true → Holds c
 holds (cleared units wanted brought price calls) e = clears units wanted brought calls (length units) price e
@@ -210,6 +212,7 @@ holds (tenths weights rooms given) e =
     let both = and-parts _ _ e in
     by-fraction (at-place weights) (at-place rooms) (at-place given) (length rooms)
     (λ i past. past-end given (length rooms) i (both .0) past) (λ i past. getD-past rooms i 0 past) (both .1)
+holds (penalty plan reading due) e = eqb-true _ _ e
 
 -- The cases that do not pass.
 abbrev pub failing : List Case → List Case

@@ -1,4 +1,6 @@
 -- Defines worked cases of the market's rules, and what it is for a case to hold.
+use mathlib.Core.Path.{_≡_}
+use mathlib.Core.Bool.{true}
 use mathlib.Core.List.{List, [], _∷_}
 use Prim.Native.Nat.{ℕ, _<_}
 use Rattle.std.specs.declared.option.Option.{Option}
@@ -9,6 +11,7 @@ use Rattle.sharing.specs.Tenths.{ByFraction}
 use Rattle.sellers.specs.Tiers.{unit-power}
 use Rattle.clearing.specs.Calls.{Clears}
 use Rattle.clearing.specs.Prices.{curves-at}
+use Rattle.money.specs.Money.{penalty-of}
 
 -- A thermal unit and its offer: its capacity in megawatts, its floor and base in tenths of one, and the prices of its eight tiers.
 pub record UnitOf : Type 0 where
@@ -29,12 +32,15 @@ pub data Case : Type 0 where
   shared : (weights : List ℕ) (amount : ℕ) (shares : List ℕ) → Case
   -- Tenths by the fraction rule: the weights of the parties, the tenths that each has room for, and those that each is given.
   tenths : (weights rooms given : List ℕ) → Case
+  -- A penalty: the plan of a unit that was called, its reading, and what it owes.
+  penalty : (plan reading due : ℕ) → Case
 
 -- The rules make of the case what it says: a unit weighs its capacity, and a share-out is one among parties of some weight.
 abbrev pub Holds : Case → Type 0
 Holds (cleared units wanted brought price calls) = Clears (by-place (λ u. u .capacity) units) (curves-at power-of-unit units) wanted brought price (at-place calls)
 Holds (shared weights amount shares) = (0 < total (at-place weights)) × SharedOut (at-place weights) amount (at-place shares)
 Holds (tenths weights rooms given) = ByFraction (at-place weights) (at-place rooms) (at-place given)
+Holds (penalty plan reading due) = penalty-of true reading plan ≡ due
 
 -- The prices that both units offer.
 abbrev pub tier-prices : List ℕ
@@ -60,4 +66,10 @@ worked =
     -- The first tenth, the second and the third of a party of 600 and one of 300.
     tenths (600 ∷ 300 ∷ []) (3 ∷ 3 ∷ []) (1 ∷ 0 ∷ []) ∷
     tenths (600 ∷ 300 ∷ []) (3 ∷ 3 ∷ []) (2 ∷ 0 ∷ []) ∷
-    tenths (600 ∷ 300 ∷ []) (3 ∷ 3 ∷ []) (2 ∷ 1 ∷ []) ∷ []
+    tenths (600 ∷ 300 ∷ []) (3 ∷ 3 ∷ []) (2 ∷ 1 ∷ []) ∷
+    -- Penalties of 6,000 fen are refunded to two units by their readings.
+    shared (92000 ∷ 45000 ∷ []) 6000 (4029 ∷ 1971 ∷ []) ∷
+    -- A plan of 360 megawatts is 90,000 kilowatt-hours: a reading 1,800 off costs nothing, and one more off costs 30 fen, above the plan and below.
+    penalty 3600 91800 0 ∷
+    penalty 3600 91801 30 ∷
+    penalty 3600 88199 30 ∷ []

@@ -1,5 +1,6 @@
 // The worked cases, run on the code.
 use clearing::clear::clear;
+use money::deviation::penalty;
 use sellers::capacity::Capacity;
 use sellers::power::Power;
 use sellers::tiers::TierPrices;
@@ -98,4 +99,11 @@ fn tenths() -> Result<(), Fail> {
     check_eq(given(1), Some((1, 0, 0)))?;
     check_eq(given(2), Some((2, 0, 0)))?;
     check_eq(given(3), Some((2, 1, 0)))
+}
+
+#[test]
+fn penalties() -> Result<(), Fail> {
+    check_eq(penalty(true, 91_800, 3600), 0)?;
+    check_eq(penalty(true, 91_801, 3600), 30)?;
+    check_eq(penalty(true, 88_199, 3600), 30)
 }
