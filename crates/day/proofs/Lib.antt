@@ -11,3 +11,4 @@ pub mod Passing
 pub mod Blank
 pub mod InRows
 pub mod Units
+pub mod Totalled

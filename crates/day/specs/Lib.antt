@@ -9,6 +9,7 @@ pub mod Runs
 pub mod History
 pub mod Alike
 pub mod Bills
+pub mod Figures
 pub mod Balance
 pub mod Law
 pub mod Reached

@@ -4,6 +4,7 @@ mod book;
 mod closed;
 mod entries;
 mod faults;
+mod figures;
 mod opening;
 mod parties;
 mod penalties;
