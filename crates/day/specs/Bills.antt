@@ -3,6 +3,7 @@ use mathlib.Core.Bool.{Bool, true, false, cond}
 use Prim.Native.Nat.{ℕ, _+_, _-_, _*_}
 use lib.Dec.{eqb, ltb}
 use lib.IntN.{ℤ, pos}
+use Rattle.std.specs.Options.{isSome}
 use Rattle.std.specs.declared.option.Option.{Option}
 use Rattle.std.specs.declared.option.Option.the-variants.{Some, None}
 use Rattle.sharing.specs.Places.{upto, total}
@@ -10,7 +11,7 @@ use Rattle.sharing.specs.Shares.{share-of}
 use Rattle.money.specs.Money.{fee-of, producers-of, users-of, deviation-of, penalty-of}
 use Rattle.day.specs.declared.book.Book.{Book}
 use Rattle.day.specs.Terms.{Enrolment, nobody, unit, pool, is-unit, or-else, base-from}
-use Rattle.day.specs.Reading.{seller-at, plant-at, period-at, plan-at, unit-read, plant-read, cleared-at, call-in, received-in, price-in}
+use Rattle.day.specs.Reading.{seller-at, plant-at, period-at, want-at, plan-at, unit-read, plant-read, cleared-at, call-in, received-in, brought-in, price-in}
 
 -- The call of a seller in a round of a period, and the price of the round: 0, or none, where it is not cleared.
 abbrev pub call-of : Book → ℕ → ℕ → ℕ → ℕ
@@ -18,6 +19,13 @@ call-of b k p i = call-in (cleared-at (period-at b p) k) i
 
 abbrev pub price-of : Book → ℕ → ℕ → Option ℕ
 price-of b k p = price-in (cleared-at (period-at b p) k)
+
+-- What the areas wanted together in a cleared round, and what was brought.
+abbrev pub wanted-of : Book → ℕ → ℕ → ℕ
+wanted-of b k p = cond (isSome (cleared-at (period-at b p) k)) (total (want-at (period-at b p) k)) 0
+
+abbrev pub brought-of : Book → ℕ → ℕ → ℕ
+brought-of b k p = brought-in (cleared-at (period-at b p) k)
 
 -- What an area received in a round of a period.
 abbrev pub received-of : Book → ℕ → ℕ → ℕ → ℕ

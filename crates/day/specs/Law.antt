@@ -8,17 +8,13 @@ use Rattle.std.specs.declared.option.Option.the-variants.{None}
 use Rattle.money.specs.declared.share.Share.{Share}
 use Rattle.day.specs.declared.book.Book.{Book}
 use Rattle.day.specs.Balance.{Balanced}
-use Rattle.day.specs.Bills.{call-of, price-of, received-of}
+use Rattle.day.specs.Bills.{call-of, price-of, brought-of, received-of}
 use Rattle.day.specs.Calls.{Answer, Early, Late, clear}
 use Rattle.day.specs.History.{accepted, enrolment, plant-in, on, latest-want, latest-plan, latest-unit-read, latest-plant-read, was-cleared, curve-given}
 use Rattle.day.specs.Reading.{seller-at, plant-at, period-at, cleared-at, brought-in, want-at, plan-at, unit-read, plant-read}
 use Rattle.day.specs.Rounds.{Stands}
 use Rattle.day.specs.Runs.{Running, Later}
 use Rattle.day.specs.Terms.{capacity-of}
-
--- What was brought in a round of a period.
-abbrev pub brought-of : Book → ℕ → ℕ → ℕ
-brought-of b k p = brought-in (cleared-at (period-at b p) k)
 
 -- Of any accepted clearing: what the day answers of that round stands on the sellers and wants that the calls accepted before it give. Of a round with no accepted clearing it answers 0, and no price.
 abbrev pub Rounds : List (Early × Answer) → List ((ℕ × Late) × Answer) → Book → Type 0

@@ -11,6 +11,7 @@ mod penalties;
 mod questions;
 mod rounds;
 mod running;
+mod share;
 mod totals;
 
 pub use book::Book;
@@ -24,4 +25,5 @@ pub use closed::ClosedDay;
 pub use faults::Fault;
 pub use opening::OpeningDay;
 pub use running::RunningDay;
+pub use share::tested_share;
 pub use totals::Totals;

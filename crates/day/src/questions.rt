@@ -1,13 +1,15 @@
 // What a closed day answers of calls, prices, fees and charges: 0, or no price, where there is no such round, period or party.
 ghost use mathlib.Core.Path.{_≡_};
 ghost use Prim.Native.Nat.{ℕ, _<_, _≤_, _+_, _^_};
-ghost use lib.ListN.{length};
-ghost use Rattle.sharing.specs.Places.{at-place};
+ghost use mathlib.Core.Bool.{cond};
+ghost use lib.ListN.{length, getD};
+ghost use Rattle.std.specs.Options.{isSome};
+ghost use Rattle.sharing.specs.Places.{total, at-place};
 ghost use Rattle.sharing.specs.Shares.{share-of};
 ghost use Rattle.day.specs.Alike.{ReadAlike};
-ghost use Rattle.day.specs.Bills.{call-of, price-of, received-of, net, plant-charge, uncarried-charge};
+ghost use Rattle.day.specs.Bills.{call-of, price-of, wanted-of, brought-of, received-of, net, plant-charge, uncarried-charge};
 ghost use Rattle.day.specs.Bills as bills;
-ghost use Rattle.day.specs.Reading.{period-at, cleared-at, price-in, call-in, received-in};
+ghost use Rattle.day.specs.Reading.{no-round, period-at, cleared-at, price-in, call-in, received-in};
 ghost use Rattle.day.specs.Terms.{or-else};
 use crate::bills::area_of_plant;
 use crate::bills::cleared_in;
@@ -15,8 +17,10 @@ use crate::bills::producers;
 use crate::book::BLANK;
 use crate::book::Cleared;
 use crate::book::Period;
+use crate::book::Round;
 use crate::closed::ClosedDay;
 use crate::parties::ProducerParty;
+use crate::rounds::wanted;
 use money::fee::fee;
 use money::share::split;
 use sharing::row::Row;
@@ -47,6 +51,20 @@ fn received_in(cleared: Option<Cleared>, area: u8) -> u32
         return 0;
     }
     c.received[area as usize]
+}
+
+// What was wanted in a cleared round: 0 where it is not cleared, or there is no such round.
+fn wanted_in(rounds: &[Round; 2], round: u8) -> u64
+    ensures { λ r. ⌜ r ≡ cond (isSome (getD (now (rounds .entry)) round no-round .cleared)) (total (at-place (getD (now (rounds .entry)) round no-round .wants))) 0 ⌝ }
+{
+    if round > 1 {
+        return 0;
+    }
+    let of = rounds[round as usize];
+    match of.cleared {
+        Some(_) => wanted(&of.wants),
+        None => 0,
+    }
 }
 
 impl ClosedDay {
@@ -92,6 +110,27 @@ impl ClosedDay {
         match self.cleared(round, period) {
             Some(c) => c.price,
             None => None,
+        }
+    }
+
+    // What the areas wanted together in a cleared round, in tenths of a megawatt.
+    pub fn wanted(&self, round: u8, period: u8) -> u64
+        ensures { λ r. ⌜ r ≡ wanted-of (now (self .entry) .book) round period ⌝ }
+    {
+        if period > 95 {
+            return 0;
+        }
+        let of = self.book.periods[period as usize];
+        wanted_in(&of.rounds, round)
+    }
+
+    // What was brought in a round, in tenths of a megawatt.
+    pub fn brought(&self, round: u8, period: u8) -> u32
+        ensures { λ r. ⌜ r ≡ brought-of (now (self .entry) .book) round period ⌝ }
+    {
+        match self.cleared(round, period) {
+            Some(c) => c.brought,
+            None => 0,
         }
     }
 

@@ -205,7 +205,7 @@ fn places(
 }
 
 // What the areas want together.
-fn wanted(wants: &[u32; 8]) -> u64
+pub(crate) fn wanted(wants: &[u32; 8]) -> u64
     ensures { λ r. ⌜ r ≡ total (at-place (now (wants .entry))) ⌝ }
 {
     let mut sum = 0u64;
