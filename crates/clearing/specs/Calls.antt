@@ -16,7 +16,7 @@ under curve (suc p) = curve p
 abbrev pub at-price : (ℕ → ℕ) → ℕ → ℕ
 at-price curve p = curve p - under curve p
 
--- At the price p each seller is called for all that it offers below p and for no more than it offers at p.
+-- At the price p each seller is called for all that it offers below p and for no more than it offers at p or less.
 -- The calls add up to what is brought, and what goes out at p itself follows the fraction rule.
 pub record CalledAt (weights : ℕ → ℕ) (curves : ℕ → ℕ → ℕ) (p brought : ℕ) (calls : ℕ → ℕ) : Type 0 where
   pub low : (i : ℕ) → under (curves i) p ≤ calls i

@@ -40,7 +40,7 @@ costs curves calls = total (λ i. cost (curves i) (calls i))
 abbrev pub earns : (ℕ → ℕ) → ℕ → ℕ → ℤ
 earns curve r c = pos (25 * r * c) -ℤ pos (cost curve c)
 
--- No rival that calls within the curves and brings as much costs less.
+-- No rival that calls within the curves and brings as much or more costs less.
 abbrev pub Cheapest : (ℕ → ℕ → ℕ) → (ℕ → ℕ) → Type 0
 Cheapest curves calls =
     (rival : ℕ → ℕ) → ((i : ℕ) → rival i ≤ curves i 60) → total calls ≤ total rival → costs curves calls ≤ costs curves rival

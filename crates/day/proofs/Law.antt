@@ -62,9 +62,9 @@ module _ (s : Share) (es : List (Early × Answer)) (ls : List ((ℕ × Late) × 
         ]),
       )
 
-  latest : Latest es ls b
+  latest : Latest s es ls b
   latest =
-      let was = late s run in (was .sellers, was .plants, λ p k i low. was .each p low .plans k i, λ p i low. was .each p low .units i, λ p j low. was .each p low .plants j)
+      let was = late s run in (was .share, was .sellers, was .plants, λ p k a low. was .each p low .wants k a, λ p k i low. was .each p low .plans k i, λ p i low. was .each p low .units i, λ p j low. was .each p low .plants j)
 
   matched : (p k : ℕ) → Matched (cleared-at (period-at b p) k)
   matched p k =
@@ -82,7 +82,7 @@ module _ (s : Share) (es : List (Early × Answer)) (ls : List ((ℕ × Late) × 
         plants = λ j a is. let l : a ≤ 7 = subst (AtMost 7) is (sound s run .1 j) in omega arith;
       }
 
-  pub every-day-but : Rounds es ls b × Latest es ls b
+  pub every-day-but : Rounds es ls b × Latest s es ls b
   every-day-but = (rounds, latest)
 
 -- the whole law, where even rounds balance

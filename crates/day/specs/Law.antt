@@ -25,21 +25,22 @@ Rounds es ls b =
     × ((p k : ℕ) → was-cleared (on p (accepted ls)) k ≡ false →
     (brought-of b k p ≡ 0) × (price-of b k p ≡ None) × ((i : ℕ) → call-of b k p i ≡ 0) × ((a : ℕ) → received-of b k p a ≡ 0))
 
--- Who is enrolled as what, the plans and the readings that the day's bills go by are the latest accepted ones.
-abbrev pub Latest : List (Early × Answer) → List ((ℕ × Late) × Answer) → Book → Type 0
-Latest es ls b =
-    ((i : ℕ) → seller-at b i ≡ enrolment (accepted es) i) × ((j : ℕ) → plant-at b j ≡ plant-in (accepted es) j)
+-- The share that the day's bills go by is that of its opening; who is enrolled as what, the wants, the plans and the readings are the latest accepted ones.
+abbrev pub Latest : Share → List (Early × Answer) → List ((ℕ × Late) × Answer) → Book → Type 0
+Latest s es ls b =
+    (b .share ≡ s) × ((i : ℕ) → seller-at b i ≡ enrolment (accepted es) i) × ((j : ℕ) → plant-at b j ≡ plant-in (accepted es) j)
+    × ((p k a : ℕ) → p < 96 → want-at (period-at b p) k a ≡ latest-want (on p (accepted ls)) k a)
     × ((p k i : ℕ) → p < 96 → plan-at (period-at b p) k i ≡ latest-plan (on p (accepted ls)) k i)
     × ((p i : ℕ) → p < 96 → unit-read (period-at b p) i ≡ latest-unit-read (on p (accepted ls)) i)
     × ((p j : ℕ) → p < 96 → plant-read (period-at b p) j ≡ latest-plant-read (on p (accepted ls)) j)
 
 -- The law, of the calls that a day had and of what it answers.
-abbrev pub Law : List (Early × Answer) → List ((ℕ × Late) × Answer) → Book → Type 0
-Law es ls b = Rounds es ls b × Latest es ls b × Balanced b
+abbrev pub Law : Share → List (Early × Answer) → List ((ℕ × Late) × Answer) → Book → Type 0
+Law s es ls b = Rounds es ls b × Latest s es ls b × Balanced b
 
 -- No number or arrangement of calls, accepted or refused, prevents it.
 abbrev pub EveryDay : Type 0
-EveryDay = (s : Share) (es : List (Early × Answer)) (ls : List ((ℕ × Late) × Answer)) (b : Book) → Running s es ls b → Law es ls b
+EveryDay = (s : Share) (es : List (Early × Answer)) (ls : List ((ℕ × Late) × Answer)) (b : Book) → Running s es ls b → Law s es ls b
 
 -- A round of a period has in both days the same clearing, wants and plans.
 pub record Same (b b′ : Book) (p k : ℕ) : Type 0 where

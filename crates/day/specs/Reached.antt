@@ -17,4 +17,4 @@ Ran b = ∥ ((s : Share) × (es : List (Early × Answer)) × (ls : List ((ℕ ×
 
 -- There are calls that the day has had, and the law holds of them and of what it answers.
 abbrev pub Accounted : Book → Type 0
-Accounted b = ∥ ((s : Share) × (es : List (Early × Answer)) × (ls : List ((ℕ × Late) × Answer)) × Running s es ls b × Law es ls b) ∥₁
+Accounted b = ∥ ((s : Share) × (es : List (Early × Answer)) × (ls : List ((ℕ × Late) × Answer)) × Running s es ls b × Law s es ls b) ∥₁

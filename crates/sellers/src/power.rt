@@ -33,6 +33,7 @@ impl Power {
     {
         self.tenths
     }
+
     // The power less `by`, or 0.
     pub fn less(self, by: u32) -> Power
         ensures { λ r. ⌜ r .tenths ≡ self .tenths - by ⌝ }
