@@ -37,7 +37,7 @@ fn joined(low: &[u32; 64], given: &[u64; 64]) -> [u32; 64]
 }
 
 // Calls each seller for what it offers below the price, and shares out what remains among those that offer more at it.
-pub fn call_at<S: Seller>(sellers: &Row<'_, S>, price: u8, brought: u32) -> [u32; 64]
+pub(crate) fn call_at<S: Seller>(sellers: &Row<'_, S>, price: u8, brought: u32) -> [u32; 64]
     requires least { ⌜ Least (together (curves (S·Seller .power) (now sellers))) brought price ⌝ }
     ensures places { λ r. ⌜ length r ≡ 64 ⌝ }
     ensures called { λ r. ⌜ CalledAt (weights (S·Party .heft) (now (sellers .entry))) (curves (S·Seller .power) (now (sellers .entry))) price brought (at-place r) ⌝ }

@@ -9,7 +9,7 @@ ghost use Rattle.clearing.specs.Prices.{curves-at, offered as together};
 use sellers::seller::Seller;
 
 // What each seller offers at `price` or less.
-pub fn powers<S: Seller>(sellers: &[S], price: u8) -> [u32; 64]
+pub(crate) fn powers<S: Seller>(sellers: &[S], price: u8) -> [u32; 64]
     requires { ⌜ length (now sellers) ≤ 64 ⌝ }
     ensures places { λ r. ⌜ length r ≡ 64 ⌝ }
     ensures each { λ r. ⌜ ((i : ℕ) → at-place r i ≡ curves-at (S·Seller .power) (now (sellers .entry)) i (min price 60)) ⌝ }
@@ -23,7 +23,7 @@ pub fn powers<S: Seller>(sellers: &[S], price: u8) -> [u32; 64]
 }
 
 // What each seller offers below `price`: nothing where that is 0.
-pub fn below<S: Seller>(sellers: &[S], price: u8) -> [u32; 64]
+pub(crate) fn below<S: Seller>(sellers: &[S], price: u8) -> [u32; 64]
     requires few { ⌜ length (now sellers) ≤ 64 ⌝ }
     requires low { ⌜ price ≤ 60 ⌝ }
     ensures places { λ r. ⌜ length r ≡ 64 ⌝ }
@@ -36,7 +36,7 @@ pub fn below<S: Seller>(sellers: &[S], price: u8) -> [u32; 64]
 }
 
 // The sum of all.
-pub fn sum(all: &[u32; 64]) -> u64
+pub(crate) fn sum(all: &[u32; 64]) -> u64
     ensures { λ r. ⌜ r ≡ total (at-place (now (all .entry))) ⌝ }
 {
     let mut sum = 0u64;
@@ -47,7 +47,7 @@ pub fn sum(all: &[u32; 64]) -> u64
 }
 
 // What the sellers offer together at `price` or less.
-pub fn offered<S: Seller>(sellers: &[S], price: u8) -> u64
+pub(crate) fn offered<S: Seller>(sellers: &[S], price: u8) -> u64
     requires { ⌜ length (now sellers) ≤ 64 ⌝ }
     ensures { λ r. ⌜ r ≡ together (curves-at (S·Seller .power) (now (sellers .entry))) (min price 60) ⌝ }
 {

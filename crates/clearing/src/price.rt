@@ -7,7 +7,7 @@ use crate::powers::offered;
 use sellers::seller::Seller;
 
 // The least price at which the sellers together reach the power `brought`, by halving.
-pub fn least_price<S: Seller>(sellers: &[S], brought: u32) -> u8
+pub(crate) fn least_price<S: Seller>(sellers: &[S], brought: u32) -> u8
     requires few { ⌜ length (now sellers) ≤ 64 ⌝ }
     requires enough { ⌜ brought ≤ together (curves-at (S·Seller .power) (now sellers)) 60 ⌝ }
     ensures { λ r. ⌜ Least (together (curves-at (S·Seller .power) (now (sellers .entry)))) brought r ⌝ }
