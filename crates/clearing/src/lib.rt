@@ -1,4 +1,7 @@
 // The clearing of one round of one quarter hour.
+
+#![tactic(auto)]
+
 pub mod answer;
 mod calls;
 pub mod clear;

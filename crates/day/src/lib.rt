@@ -1,4 +1,7 @@
 // One market day: from opening over running to closed, and the law over all runs.
+
+#![tactic(auto)]
+
 mod bills;
 mod book;
 mod closed;

@@ -1,4 +1,7 @@
 // The day statement program: makes a small market day by its calls and prints what it answers.
+
+#![tactic(auto)]
+
 ghost use Rattle.std.specs.Prelude.{◌≡◌, ◌*◌};
 
 use anyhow::anyhow;

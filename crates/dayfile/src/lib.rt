@@ -1,4 +1,7 @@
 // A day file to a day, record by record.
+
+#![tactic(auto)]
+
 mod fault;
 mod give;
 mod program;

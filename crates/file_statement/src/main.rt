@@ -1,4 +1,7 @@
 // The file statement program: a day file on standard input, its statements on standard output.
+
+#![tactic(auto)]
+
 use anyhow::anyhow;
 use dayfile::{Printed, print};
 use std::env;

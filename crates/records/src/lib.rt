@@ -1,4 +1,7 @@
 // Reads the records of a day file: a two-byte mark and a body each.
+
+#![tactic(auto)]
+
 mod bodies;
 mod fault;
 mod kind;

@@ -1,4 +1,7 @@
 // The sellers of a quarter hour: what each offers at each price, and its weight.
+
+#![tactic(auto)]
+
 pub mod bidder;
 pub mod capacity;
 pub mod fault;

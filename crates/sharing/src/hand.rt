@@ -11,11 +11,11 @@ use super::list::WaitingList;
 // Gives `units` out to the claims that wait, no two of one holder, and says how many found no claim.
 pub fn hand_out<C: Claim>(list: &mut WaitingList<'_, C>, units: u64) -> Handed
     ensures adds { total (at_place result.given) + result.left ≡ units }
-    ensures handed { Orderly ahead list.old → Apart holder (waiting list.old) → HandedOut ahead holder next (waiting list.old) (at_place result.given) }
-    ensures waits { Orderly ahead list.old → Apart holder (waiting list.old) → WaitsOn holder next (waiting list.old) (at_place result.given) (waiting list.new) }
-    ensures exhausted { Orderly ahead list.old → Apart holder (waiting list.old) → 0 < result.left → Exhausted holder next (waiting list.old) (at_place result.given) }
+    ensures handed { Orderly C.ahead list.old → Apart C.holder (waiting list.old) → HandedOut C.ahead C.holder C.next (waiting list.old) (at_place result.given) }
+    ensures waits { Orderly C.ahead list.old → Apart C.holder (waiting list.old) → WaitsOn C.holder C.next (waiting list.old) (at_place result.given) (waiting list.new) }
+    ensures exhausted { Orderly C.ahead list.old → Apart C.holder (waiting list.old) → 0 < result.left → Exhausted C.holder C.next (waiting list.old) (at_place result.given) }
     ensures room { room list.new ≡ room list.old }
-    ensures orderly { Orderly ahead list.old → Orderly ahead list.new }
+    ensures orderly { Orderly C.ahead list.old → Orderly C.ahead list.new }
 {
     let mut given = [0u64; 64];
     for k in 0..units {

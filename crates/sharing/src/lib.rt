@@ -1,4 +1,7 @@
 // Sharing among parties: who waits, who is served first, and what each one gets.
+
+#![tactic(auto)]
+
 pub mod claim;
 pub mod fraction;
 pub mod hand;

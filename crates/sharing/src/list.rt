@@ -16,7 +16,7 @@ pub struct WaitingList<'a, C> {
 impl<'a, C: Claim> WaitingList<'a, C> {
     // An empty list, with room for as many claims as the slice has.
     pub fn new(claims: &'a mut [C]) -> WaitingList<'a, C>
-        ensures orderly { Orderly ahead result }
+        ensures orderly { Orderly C.ahead result }
         ensures empty { waiting result ≡ [] }
         ensures room { room result ≡ length claims.old }
     {
@@ -28,7 +28,7 @@ impl<'a, C: Claim> WaitingList<'a, C> {
         ensures room { room self.new ≡ room self.old }
         ensures full { room self.old ≤ length (waiting self.old) → (result ≡ false) × (waiting self.new ≡ waiting self.old) }
         ensures entered { length (waiting self.old) < room self.old → (result ≡ true) × IsPermutation (claim ∷ waiting self.old) (waiting self.new) }
-        ensures orderly { Orderly ahead self.old → Orderly ahead self.new }
+        ensures orderly { Orderly C.ahead self.old → Orderly C.ahead self.new }
     {
         let n = self.len;
         if n >= self.claims.len() {
@@ -43,8 +43,8 @@ impl<'a, C: Claim> WaitingList<'a, C> {
     // Serves the first claim: the one that follows it, if any, takes its place and sinks to its own.
     pub fn serve(&mut self) -> Option<C>
         ensures room { room self.new ≡ room self.old }
-        ensures items { Orderly ahead self.old → MatchOption result ((waiting self.old ≡ []) × (waiting self.new ≡ [])) (λ c. First ahead c (waiting self.old) × Serves next c (waiting self.old) (waiting self.new)) }
-        ensures orderly { Orderly ahead self.old → Orderly ahead self.new }
+        ensures items { Orderly C.ahead self.old → MatchOption result ((waiting self.old ≡ []) × (waiting self.new ≡ [])) (λ c. First C.ahead c (waiting self.old) × Serves C.next c (waiting self.old) (waiting self.new)) }
+        ensures orderly { Orderly C.ahead self.old → Orderly C.ahead self.new }
     {
         let n = self.len;
         if n == 0 || n > self.claims.len() {

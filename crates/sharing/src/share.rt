@@ -17,7 +17,7 @@ use super::shares::Shares;
 
 fn total_weight<P: Party>(parties: &[P]) -> u64
     requires { length parties.now ≤ 64 }
-    ensures { result ≡ total (by_place heft parties.now) }
+    ensures { result ≡ total (by_place P.heft parties.now) }
 {
     let mut weight = 0u64;
     for party in parties {
@@ -34,13 +34,13 @@ fn round_down<P: Party>(
     list: &mut WaitingList<'_, Remainder>,
 ) -> Handed
     requires few { length parties.now ≤ 64 }
-    requires weight { (weight ≡ total (by_place heft parties.now)) × (0 < weight) }
+    requires weight { (weight ≡ total (by_place P.heft parties.now)) × (0 < weight) }
     requires orderly { Orderly by_remainder list.old }
     requires empty { waiting list.old ≡ [] }
     requires room { room list.old ≡ 64 }
     ensures orderly { Orderly by_remainder list.new }
-    ensures rounded { Rounded (by_place heft parties.now) amount (length parties.now) (at_place result.given) (waiting list.new) }
-    ensures left { upto (part_of (by_place heft parties.now) amount) (length parties.now) + result.left ≡ amount }
+    ensures rounded { Rounded (by_place P.heft parties.now) amount (length parties.now) (at_place result.given) (waiting list.new) }
+    ensures left { upto (part_of (by_place P.heft parties.now) amount) (length parties.now) + result.left ≡ amount }
 {
     let mut given = [0u64; 64];
     let mut left = amount;
@@ -71,11 +71,11 @@ fn added(parts: &[u64; 64], odd: &[u64; 64]) -> [u64; 64]
 
 // Shares the amount out: each party gets its part rounded down, and what is left over goes one each to the greatest remainders.
 pub fn share_out<P: Party>(amount: u64, parties: &Row<'_, P>) -> Shares
-    ensures shared { Shared (weights heft parties.now) amount (at_place result.parts) result.uncarried }
-    ensures only { 0 < total (weights heft parties.now) → OnlyShares (weights heft parties.now) amount (at_place result.parts) }
-    ensures value { (i : ℕ) → i < 64 → at_place result.parts i ≡ share_of (weights heft parties.now) amount i }
+    ensures shared { Shared (weights P.heft parties.now) amount (at_place result.parts) result.uncarried }
+    ensures only { 0 < total (weights P.heft parties.now) → OnlyShares (weights P.heft parties.now) amount (at_place result.parts) }
+    ensures value { (i : ℕ) → i < 64 → at_place result.parts i ≡ share_of (weights P.heft parties.now) amount i }
     ensures adds { total (at_place result.parts) + result.uncarried ≡ amount }
-    ensures weightless { (i : ℕ) → weights heft parties.now i ≡ 0 → at_place result.parts i ≡ 0 }
+    ensures weightless { (i : ℕ) → weights P.heft parties.now i ≡ 0 → at_place result.parts i ≡ 0 }
 {
     let items = parties.items();
     let weight = total_weight(items);

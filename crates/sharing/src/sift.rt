@@ -8,7 +8,7 @@ use super::claim::Claim;
 
 fn before_at<C: Claim>(s: &[C], i: usize, j: usize) -> bool
     requires { (i < length s.now) × (j < length s.now) }
-    ensures { (d : C) → result ≡ ahead (slice_index_or s.now i d) (slice_index_or s.now j d) }
+    ensures { (d : C) → result ≡ C.ahead (slice_index_or s.now i d) (slice_index_or s.now j d) }
 {
     s[i].before(&s[j])
 }
@@ -17,7 +17,7 @@ fn before_at<C: Claim>(s: &[C], i: usize, j: usize) -> bool
 fn first_child<C: Claim>(s: &[C], j: usize) -> usize
     requires { j * 2 + 1 < length s.now }
     ensures bound { (j * 2 + 1 ≤ result) × (result ≤ j * 2 + 2) × (result < length s.now) }
-    ensures best { IsNotBelowChildren (behind ahead) s.now j result (length s.now) }
+    ensures best { IsNotBelowChildren (behind C.ahead) s.now j result (length s.now) }
 {
     let left = j * 2 + 1;
     if left + 1 == s.len() {
@@ -33,7 +33,7 @@ fn first_child<C: Claim>(s: &[C], j: usize) -> usize
 // Moves s[root] down past the children that are ahead of it.
 pub fn sink<C: Claim>(s: &mut [C], root: usize)
     ensures shuffled { IsPermutation s.old s.new }
-    ensures heap { IsHeapWithin (behind ahead) s.old (root + 1) (length s.old) → IsHeapWithin (behind ahead) s.new root (length s.new) }
+    ensures heap { IsHeapWithin (behind C.ahead) s.old (root + 1) (length s.old) → IsHeapWithin (behind C.ahead) s.new root (length s.new) }
 {
     let end = s.len();
     let mut j = root;
@@ -50,7 +50,7 @@ pub fn sink<C: Claim>(s: &mut [C], root: usize)
 // Moves the last claim up past the parents that it is ahead of.
 pub fn rise<C: Claim>(s: &mut [C])
     ensures shuffled { IsPermutation s.old s.new }
-    ensures heap { IsHeapWithin (behind ahead) s.old 0 (length s.old - 1) → IsHeapWithin (behind ahead) s.new 0 (length s.new) }
+    ensures heap { IsHeapWithin (behind C.ahead) s.old 0 (length s.old - 1) → IsHeapWithin (behind C.ahead) s.new 0 (length s.new) }
 {
     let mut j = s.len().saturating_sub(1);
     while 0 < j {

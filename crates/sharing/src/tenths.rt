@@ -21,7 +21,7 @@ fn enter_rooms<P: Party>(parties: &[P], rooms: &[u32; 64], list: &mut WaitingLis
     requires empty { waiting list.old ≡ [] }
     requires room { room list.old ≡ 64 }
     ensures orderly { Orderly by_fraction list.new }
-    ensures roomed { Roomed (by_place heft parties.now) (takes (by_place heft parties.now) (at_place rooms.now)) (length parties.now) (waiting list.new) }
+    ensures roomed { Roomed (by_place P.heft parties.now) (takes (by_place P.heft parties.now) (at_place rooms.now)) (length parties.now) (waiting list.new) }
 {
     for (i, party) in parties.iter().enumerate() {
         let weight = party.weight();
@@ -40,9 +40,9 @@ fn enter_rooms<P: Party>(parties: &[P], rooms: &[u32; 64], list: &mut WaitingLis
 // Gives `rest` tenths out by the fraction rule, and says how many found no room. A party without a weight takes none.
 pub fn share_tenths<P: Party>(parties: &Row<'_, P>, rooms: &[u32; 64], rest: u64) -> Handed
     ensures adds { total (at_place result.given) + result.left ≡ rest }
-    ensures left { result.left ≡ rest - total (takes (weights heft parties.now) (at_place rooms.now)) }
-    ensures shared { ByFraction (weights heft parties.now) (takes (weights heft parties.now) (at_place rooms.now)) (at_place result.given) }
-    ensures only { OnlyTenths (weights heft parties.now) (takes (weights heft parties.now) (at_place rooms.now)) (at_place result.given) }
+    ensures left { result.left ≡ rest - total (takes (weights P.heft parties.now) (at_place rooms.now)) }
+    ensures shared { ByFraction (weights P.heft parties.now) (takes (weights P.heft parties.now) (at_place rooms.now)) (at_place result.given) }
+    ensures only { OnlyTenths (weights P.heft parties.now) (takes (weights P.heft parties.now) (at_place rooms.now)) (at_place result.given) }
 {
     let mut slots = [Fraction {
         had: 0,

@@ -1,4 +1,7 @@
 // Statements: a closed day's periods and its total line, as bytes.
+
+#![tactic(auto)]
+
 mod bill;
 mod entries;
 mod entry;

@@ -1,4 +1,7 @@
 // Worked cases of the market's rules, proved of the rules and run on the code.
+
+#![tactic(auto)]
+
 ghost use Rattle.std.specs.List.{AllByRecursion as All};
 ghost use Rattle.worked.specs.Cases.{Holds, worked};
 

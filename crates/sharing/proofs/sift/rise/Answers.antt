@@ -20,5 +20,5 @@ loop-j-preserved g c =
     let w = c.swap.ensures.by_index in (
       omega arith,
       IsPermutation-trans _ _ _ l.invariant.1 c.swap.ensures.permutation,
-      λ h. rises (behind g.C.Claim.ahead) o l.s c.swap.new.self 0 _ l.j _ (omega arith) (omega arith) (omega arith) (omega arith) (w.0, w.1, w.2) (λ d. sym (c.before-at.ensures d) ∙ c.if-not-before-at.false) (l.invariant.2 h),
+      λ h. rises (behind g.C.Claim.ahead) o l.s c.swap.new.self 0 _ l.j _ (omega arith) (omega arith) (omega arith) (omega arith) (w.0, w.1, w.2) (λ d. sym (c.before_at.ensures d) ∙ c.if-not-before_at.false) (l.invariant.2 h),
     )
