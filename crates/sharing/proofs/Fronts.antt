@@ -1,7 +1,7 @@
 -- A heap in the front of a slice: one more claim at its end, and the first one served. Assumes nothing.
 use Rattle.std.proofs.Common.{◌≡◌, ℕ, zero, suc, ◌+◌, ◌-◌, ◌*◌, ◌<◌, ◌≤◌, Bool, true, false, List, [], ◌∷◌, ◌++◌, length, get_or, take, drop, set, Some, None, Option, sym, refl, ap, ◌∙◌, subst, arith}
 use lib.Seq.{take-set-lt}
-use Rattle.std.proofs.Permutation.{taken_first}
+use Rattle.std.proofs.Permutation.{taken_at}
 use Rattle.std.specs.Cmp.{IsStrictWeakOrder}
 use Rattle.std.specs.Slice.Heapsort.{IsHeapWithin}
 use Rattle.std.specs.List.Sorted.{IsPermutation}
@@ -95,7 +95,7 @@ module _ {X : Type 0} where
       leaves e last f = record {
         rest = take left (ys ++ post);
         out = subst (λ l. IsPermutation (take n xs) (x ∷ l)) (sym (front ys post left long_left))
-            (IsPermutation-trans _ _ _ (taken_first (take n xs) x (omega (arith, full)) (first_of x)) (IsPermutation-cons x _ _ (subst (λ l. IsPermutation l ys) (sym left_over) moved)));
+            (IsPermutation-trans _ _ _ (taken_at (take n xs) 0 x (omega (arith, full)) (first_of x)) (IsPermutation-cons x _ _ (subst (λ l. IsPermutation l ys) (sym left_over) moved)));
         back = subst (λ o. IsPermutation (option_to_list o ++ take left (ys ++ post)) (take left (ys ++ post))) (sym f) (IsPermutation-refl _);
       }
         where

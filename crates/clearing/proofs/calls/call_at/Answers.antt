@@ -29,8 +29,8 @@ module _ {S : Type 0} (power : S → ℕ → ℕ) (heft : S → ℕ) (items row 
 takes-open : (weights rooms : ℕ → ℕ) → ((i : ℕ) → 0 < rooms i → 0 < weights i) → takes weights rooms ≡ rooms
 takes-open weights rooms heavy = λ k i. takes_all weights rooms i (heavy i) k
 
-pub overflow-sub-rest : goal.overflow-sub-rest
-overflow-sub-rest g c =
+pub overflow_sub-rest : goal.overflow_sub-rest
+overflow_sub-rest g c =
     let power = g.S.Seller.power in
     let row = c.args.sellers.now.items.now in
     let law = lawful_at power g.met.S.Seller.lawful row in
@@ -53,11 +53,11 @@ joined-requires g c =
     let is-low = low_of power heft _ row same p c.below-low.result c.powers.result c.between-rooms.result c.below-low.ensures.each in
     let is-room = room_of power heft _ row same p c.below-low.result c.powers.result c.between-rooms.result least.within c.powers.ensures.each c.between-rooms.ensures.1 in
     let heavy = heavy-of power heft _ row same p c.below-low.result c.powers.result c.between-rooms.result is-room c.powers.ensures.weighs in
-    let handed = c.share-tenths-handed.ensures in
+    let handed = c.share_tenths-handed.ensures in
     let enough = room_enough (curves_at power row) law (by_place heft row) p c.args.brought least _ _ is-low is-room in
     let wide = takes-open (by_place heft row) (at_place c.between-rooms.result) heavy in
-    let none : c.share-tenths-handed.result.left ≡ 0 = let s = c.sum.ensures in let b = c.from.ensures in let l = handed.left in let t = ap total wide in omega arith in
-    let fair = subst (λ (r : ℕ → ℕ). ByFraction (by_place heft row) r (at_place c.share-tenths-handed.result.given)) wide handed.shared in
+    let none : c.share_tenths-handed.result.left ≡ 0 = let s = c.sum.ensures in let b = c.from.ensures in let l = handed.left in let t = ap total wide in omega arith in
+    let fair = subst (λ (r : ℕ → ℕ). ByFraction (by_place heft row) r (at_place c.share_tenths-handed.result.given)) wide handed.shared in
     λ i l.
     let f = call_fits (curves_at power row) law (by_place heft row) p c.args.brought least _ _ is-low is-room _ fair (let s = c.sum.ensures in let b = c.from.ensures in let a = handed.adds in omega arith) i in
     omega arith
@@ -74,17 +74,17 @@ returns g c =
     let is-low = low_of power heft _ row same p c.below-low.result c.powers.result c.between-rooms.result c.below-low.ensures.each in
     let is-room = room_of power heft _ row same p c.below-low.result c.powers.result c.between-rooms.result least.within c.powers.ensures.each c.between-rooms.ensures.1 in
     let heavy = heavy-of power heft _ row same p c.below-low.result c.powers.result c.between-rooms.result is-room c.powers.ensures.weighs in
-    let handed = c.share-tenths-handed.ensures in
+    let handed = c.share_tenths-handed.ensures in
     let enough = room_enough (curves_at power row) law (by_place heft row) p c.args.brought least _ _ is-low is-room in
     let wide = takes-open (by_place heft row) (at_place c.between-rooms.result) heavy in
-    let none : c.share-tenths-handed.result.left ≡ 0 = let s = c.sum.ensures in let b = c.from.ensures in let l = handed.left in let t = ap total wide in omega arith in
-    let fair = subst (λ (r : ℕ → ℕ). ByFraction (by_place heft row) r (at_place c.share-tenths-handed.result.given)) wide handed.shared in
-    let sums : (i : ℕ) → at_place c.joined.result i ≡ at_place c.below-low.result i + at_place c.share-tenths-handed.result.given i =
+    let none : c.share_tenths-handed.result.left ≡ 0 = let s = c.sum.ensures in let b = c.from.ensures in let l = handed.left in let t = ap total wide in omega arith in
+    let fair = subst (λ (r : ℕ → ℕ). ByFraction (by_place heft row) r (at_place c.share_tenths-handed.result.given)) wide handed.shared in
+    let sums : (i : ℕ) → at_place c.joined.result i ≡ at_place c.below-low.result i + at_place c.share_tenths-handed.result.given i =
     λ i. cases (cases_lt i 64) (c.joined.ensures.1 i)
     (λ past.
     let x = get_or_past c.joined.result i 0 (let l = c.joined.ensures.0 in omega arith) in
     let y = get_or_past c.below-low.result i 0 (let l = c.below-low.ensures.places in omega arith) in
-    let z = get_or_past c.share-tenths-handed.result.given i 0 (let l = c.share-tenths-handed.result.places in omega arith) in
+    let z = get_or_past c.share_tenths-handed.result.given i 0 (let l = c.share_tenths-handed.result.places in omega arith) in
     omega arith) in
     record {
       places = c.joined.ensures.0;

@@ -12,8 +12,8 @@ use Rattle.clearing.proofs.clear.clear.Goals as goal
 shortage : (curves : ℕ → ℕ → ℕ) (wanted brought : ℕ) → brought ≡ min wanted (offered curves 60) → Short curves wanted brought
 shortage curves wanted brought is = record { only_then = λ l. omega arith; always_then = λ l. omega arith }
 
-pub overflow-cast-brought : goal.overflow-cast-brought
-overflow-cast-brought g c =
+pub overflow_cast-brought : goal.overflow_cast-brought
+overflow_cast-brought g c =
     let power = g.S.Seller.power in
     let items = c.items-items.result.now in
     omega (arith, c.offered.ensures, offered_most (curves_at power items) (lawful_at power g.met.S.Seller.lawful items))
@@ -46,10 +46,10 @@ returns g c =
     let law = lawful_at power g.met.S.Seller.lawful row in
     let all : c.offered.result ≡ offered fs 60 = c.offered.ensures ∙ ap (λ l. offered (curves_at power l) 60) c.items-items.ensures.same in
     let brings : c.min-brought.result ≡ min c.args.wanted (offered fs 60) = c.min-brought.ensures ∙ ap (min c.args.wanted) all in
-    let p = c.least-price-price.result in
-    let least : Least (offered fs) c.min-brought.result p = subst (λ l. Least (offered (curves_at power l)) c.min-brought.result p) c.items-items.ensures.same c.least-price-price.ensures in
-    let clears : Clears w fs c.args.wanted c.min-brought.result (Some p) (at_place c.call-at.result) =
-    record { brings = brings; priced = ((let n = c.if-brought-eq0.false in omega arith), least, c.call-at.ensures.called) } in
+    let p = c.least_price-price.result in
+    let least : Least (offered fs) c.min-brought.result p = subst (λ l. Least (offered (curves_at power l)) c.min-brought.result p) c.items-items.ensures.same c.least_price-price.ensures in
+    let clears : Clears w fs c.args.wanted c.min-brought.result (Some p) (at_place c.call_at.result) =
+    record { brings = brings; priced = ((let n = c.if-brought-eq0.false in omega arith), least, c.call_at.ensures.called) } in
     record {
       clears = clears;
       only = all_only w fs c.args.wanted _ (Some p) _ clears;

@@ -8,8 +8,8 @@ use Rattle.sharing.proofs.Sums.{cases, upto_at, by_place_past}
 use Rattle.day.specs.declared.parties.Buyer.{Buyer}
 use Rattle.day.proofs.rounds.receive.Goals as goal
 
-pub first-eight-requires : goal.first-eight-requires
-first-eight-requires c = λ a l. let u = upto_at (at_place c.share-out-shares.result.parts) 64 a (omega arith) in omega (arith, c.share-out-shares.ensures.adds, c.from.ensures)
+pub first_eight-requires : goal.first_eight-requires
+first_eight-requires c = λ a l. let u = upto_at (at_place c.share_out-shares.result.parts) 64 a (omega arith) in omega (arith, c.share_out-shares.ensures.adds, c.from.ensures)
 
 pub returns : goal.returns
 returns c =
@@ -23,6 +23,6 @@ returns c =
     (λ low. get_or-map (λ (x : Buyer). x.want) areas a (record { want = 0 }) 0 (let n = c.buyers-areas.ensures.0 in omega arith) ∙ c.buyers-areas.ensures.1 a low)
     (λ past. by_place_past (λ (x : Buyer). x.want) areas a (let n = c.buyers-areas.ensures.0 in omega arith) ∙ sym (get_or_past wants a 0 (omega arith))) in
     record {
-      places = c.first-eight.ensures.0;
-      shared = λ a l. c.first-eight.ensures.1 a l ∙ c.share-out-shares.ensures.value a (omega arith) ∙ share_same _ _ weigh _ a (omega arith) ∙ ap (λ n. share_of (at_place wants) n a) c.from.ensures;
+      places = c.first_eight.ensures.0;
+      shared = λ a l. c.first_eight.ensures.1 a l ∙ c.share_out-shares.ensures.value a (omega arith) ∙ share_same _ _ weigh _ a (omega arith) ∙ ap (λ n. share_of (at_place wants) n a) c.from.ensures;
     }

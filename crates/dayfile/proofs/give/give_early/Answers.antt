@@ -19,7 +19,7 @@ returns-in-OfferUnit c = takes_as c.in-OfferUnit.is (on_opening c.offer_unit.ens
 
 pub returns-in-OfferPool : goal.returns-in-OfferPool
 returns-in-OfferPool c =
-    let all = c.steps-in-all.result in
+    let all = c.steps_in-all.result in
     let n = c.in-OfferPool.count in
-    let part = ap (λ k. take k all) (sub-zero n) ∙ c.steps-in-all.ensures.1 in
+    let part = ap (λ k. take k all) (sub-zero n) ∙ c.steps_in-all.ensures.1 in
     takes_as c.in-OfferPool.is (on_opening (subst (λ ss. EarlyDoes (offer_pool c.in-OfferPool.seller ss) c.args.day.now.book c.offer_pool.result c.offer_pool.new.self.book) part c.offer_pool.ensures))

@@ -8,5 +8,5 @@ use Rattle.dayfile.proofs.program.list.Goals as goal
 pub returns : goal.returns
 returns c =
     let b = c.args.day.book in
-    pushed _ c.in-ok-text.ensures c.in-ok-extend-from-slice.was c.extend-from-slice.ensures.items
-    ∙ ap (λ l. each (statement_of b) 96 ++ l) (total_part b c.total-line-total.result c.first-line-long.result c.total-line-total.ensures c.first-line-long.ensures.line)
+    pushed _ c.in_ok-text.ensures c.in_ok-extend_from_slice.was c.extend_from_slice.ensures.items
+    ∙ ap (λ l. each (statement_of b) 96 ++ l) (total_part b c.total_line-total.result c.first_line-long.result c.total_line-total.ensures c.first_line-long.ensures.line)

@@ -6,16 +6,16 @@ use Rattle.statements.proofs.Groups.{each_none, each_more}
 use Rattle.dayfile.proofs.program.periods.Goals as goal
 
 pub loop-period-init : goal.loop-period-init
-loop-period-init c = (c.new-text.ensures.items ∙ each_none (statement_of c.args.day.now.book), c.in-ok-page.ensures.len)
+loop-period-init c = (c.new-text.ensures.items ∙ each_none (statement_of c.args.day.now.book), c.in_ok-page.ensures.len)
 
-pub returns-in-err-add-period : goal.returns-in-err-add-period
-returns-in-err-add-period c = let p = err_from_is_err_and c.from-residual-in-err-add-period.result c.from-residual-in-err-add-period.ensures.1 in rw p.1 tt
+pub returns-in_err-add_period : goal.returns-in_err-add_period
+returns-in_err-add_period c = let p = err_from_is_err_and c.from_residual-in_err-add_period.result c.from_residual-in_err-add_period.ensures.1 in rw p.1 tt
 
 pub loop-period-preserved : goal.loop-period-preserved
 loop-period-preserved c =
     let text = statement_of c.args.day.now.book in
     let p = c.loop-period.period in
-    (c.in-ok-add-period.ensures ∙ (ap (λ l. l ++ text p) c.loop-period.invariant.0 ∙ sym (each_more text p)), c.loop-period.invariant.1)
+    (c.in_ok-add_period.ensures ∙ (ap (λ l. l ++ text p) c.loop-period.invariant.0 ∙ sym (each_more text p)), c.loop-period.invariant.1)
 
 pub returns : goal.returns
 returns c = c.loop-period.invariant.0 ∙ ap (each (statement_of c.args.day.now.book)) (omega arith)

@@ -27,8 +27,8 @@ returns-in-None g c =
       orderly = λ was. c.in-None.ensures.orderly (inv.3 was);
     }
 
-pub overflow-add-given : goal.overflow-add-given
-overflow-add-given g c =
+pub overflow_add-given : goal.overflow_add-given
+overflow_add-given g c =
     let i = c.number-i.result in
     let here : i < 64 = let n = g.met.C.Claim.numbered c.in-Some.claim in let e = c.number-i.ensures in omega arith in
     omega (arith, c.loop-k.invariant.1, upto_at (at_place c.loop-k.given) 64 i here)

@@ -26,16 +26,16 @@ module _ (heft-at weight amount t : ℕ) (weights : ℕ → ℕ) (i : ℕ) (here
   fits : (left : ℕ) → 0 < t → i < 64 → upto (part_of weights amount) i + left ≡ amount → amount * heft-at / t ≤ left
   fits left pos l is = let p = part_is in let f = part_fits weights amount i left (subst (λ n. 0 < n) all pos) l is in omega arith
 
-pub overflow-cast-part-in-loop-i : goal.overflow-cast-part-in-loop-i
-overflow-cast-part-in-loop-i g c =
+pub overflow_cast-part-in-loop-i : goal.overflow_cast-part-in-loop-i
+overflow_cast-part-in-loop-i g c =
     let heft = g.P.Party.heft in
     let ps = c.args.parties.now in
     let at = by_place_is heft ps c.loop-i.i c.index-parties-i.result c.loop-i-test.true c.index-parties-i.is in
     let f = fits _ _ c.args.amount c.args.weight (by_place heft ps) c.loop-i.i c.weight.ensures at c.requires.weight.0 c.loop-i.left c.requires.weight.1 (omega arith) c.loop-i.invariant.2 in
     omega (arith, c.loop-i.invariant.2)
 
-pub overflow-sub-left : goal.overflow-sub-left
-overflow-sub-left g c =
+pub overflow_sub-left : goal.overflow_sub-left
+overflow_sub-left g c =
     let heft = g.P.Party.heft in
     let ps = c.args.parties.now in
     let at = by_place_is heft ps c.loop-i.i c.index-parties-i.result c.loop-i-test.true c.index-parties-i.is in

@@ -12,7 +12,7 @@ use Rattle.sharing.proofs.share.share_out.Given as given
 pub returns-then-weight-eq0 : goal.returns-then-weight-eq0
 returns-then-weight-eq0 g c =
     let none : total (by_place g.P.Party.heft c.args.parties.now.items.now) ≡ 0 =
-    subst (λ l. total (by_place g.P.Party.heft l) ≡ 0) c.items-items.ensures.same (sym c.total-weight-weight.ensures ∙ c.if-weight-eq0.true) in
+    subst (λ l. total (by_place g.P.Party.heft l) ≡ 0) c.items-items.ensures.same (sym c.total_weight-weight.ensures ∙ c.if-weight-eq0.true) in
     record {
       shared = record { carried = λ pos. absurd (omega arith); weightless = λ _. (zeros 64, refl) };
       only = λ pos. absurd (omega arith);
@@ -25,9 +25,9 @@ pub added-requires : goal.added-requires
 added-requires g c =
     let heft = g.P.Party.heft in
     let ps = c.items-items.result.now in
-    let r = c.round-down-rounded.ensures in
-    let h = c.hand-out-odd.ensures in
-    let pos : 0 < total (by_place heft ps) = let e = c.total-weight-weight.ensures in let n = c.if-weight-eq0.false in omega arith in
+    let r = c.round_down-rounded.ensures in
+    let h = c.hand_out-odd.ensures in
+    let pos : 0 < total (by_place heft ps) = let e = c.total_weight-weight.ensures in let n = c.if-weight-eq0.false in omega arith in
     let apart = r.rounded.below.apart in
     record {
       fits = λ i l.
@@ -42,26 +42,26 @@ returns g c =
     let same : ps ≡ c.args.parties.now.items.now = c.items-items.ensures.same in
     let w = by_place heft ps in
     let a = c.args.amount in
-    let r = c.round-down-rounded.ensures in
-    let h = c.hand-out-odd.ensures in
-    let pos : 0 < total w = let e = c.total-weight-weight.ensures in let n = c.if-weight-eq0.false in omega arith in
+    let r = c.round_down-rounded.ensures in
+    let h = c.hand_out-odd.ensures in
+    let pos : 0 < total w = let e = c.total_weight-weight.ensures in let n = c.if-weight-eq0.false in omega arith in
     let apart = r.rounded.below.apart in
-    let parts = c.round-down-rounded.result.given in
-    let odd = c.hand-out-odd.result.given in
+    let parts = c.round_down-rounded.result.given in
+    let odd = c.hand_out-odd.result.given in
     let s = at_place c.added.result in
     let sums : (i : ℕ) → s i ≡ at_place parts i + at_place odd i =
     λ i. cases (cases_lt i 64) (c.added.ensures.1 i)
     (λ past.
     let x = get_or_past c.added.result i 0 (let l = c.added.ensures.0 in omega arith) in
-    let y = get_or_past parts i 0 (let l = c.round-down-rounded.result.places in omega arith) in
-    let z = get_or_past odd i 0 (let l = c.hand-out-odd.result.places in omega arith) in
+    let y = get_or_past parts i 0 (let l = c.round_down-rounded.result.places in omega arith) in
+    let z = get_or_past odd i 0 (let l = c.hand_out-odd.result.places in omega arith) in
     omega arith) in
-    let none : c.hand-out-odd.result.left ≡ 0 =
+    let none : c.hand_out-odd.result.left ≡ 0 =
     none_left w a _ _ (length ps) _ _ _ pos c.items-items.ensures.few (by_place_past heft ps) r.rounded r.left (h.handed r.orderly apart) h.adds (h.exhausted r.orderly apart) in
     let all : SharedOut w a s =
     shared w a _ _ (length ps) _ _ _ pos c.items-items.ensures.few (by_place_past heft ps) r.rounded r.left (h.handed r.orderly apart) h.adds (h.exhausted r.orderly apart) s sums in
     let Outcome : (ℕ → ℕ) → Type 0 = λ v.
-    Shared v a s c.hand-out-odd.result.left × (0 < total v → OnlyShares v a s) × ((i : ℕ) → i < 64 → s i ≡ share_of v a i) × ((i : ℕ) → v i ≡ 0 → s i ≡ 0) in
+    Shared v a s c.hand_out-odd.result.left × (0 < total v → OnlyShares v a s) × ((i : ℕ) → i < 64 → s i ≡ share_of v a i) × ((i : ℕ) → v i ≡ 0 → s i ≡ 0) in
     let out : Outcome w = (
       record { carried = λ _. (all, none); weightless = λ z. absurd (omega arith) },
       λ _ other is i l. only_shares w a other s is all i l,

@@ -4,12 +4,12 @@ use Rattle.sharing.specs.Order.{behind}
 use Rattle.sharing.proofs.Heaps.{only_child, left_child, right_child}
 use Rattle.sharing.proofs.sift.first_child.Goals as goal
 
-pub returns-then-before-at : goal.returns-then-before-at
-returns-then-before-at g c =
+pub returns-then-before_at : goal.returns-then-before_at
+returns-then-before_at g c =
     let o = IsStrictWeakOrder-flip _ g.met.C.Claim.ranks in
-    record { bound = omega arith; best = right_child (behind g.C.Claim.ahead) o c.args.s.now c.args.j _ _ refl (λ d. sym (c.before-at.ensures d) ∙ c.if-before-at.true) }
+    record { bound = omega arith; best = right_child (behind g.C.Claim.ahead) o c.args.s.now c.args.j _ _ refl (λ d. sym (c.before_at.ensures d) ∙ c.if-before_at.true) }
 
-pub returns-else-before-at : goal.returns-else-before-at
-returns-else-before-at g c =
+pub returns-else-before_at : goal.returns-else-before_at
+returns-else-before_at g c =
     let o = IsStrictWeakOrder-flip _ g.met.C.Claim.ranks in
-    record { bound = omega arith; best = left_child (behind g.C.Claim.ahead) o c.args.s.now c.args.j _ _ refl (λ d. sym (c.before-at.ensures d) ∙ c.if-before-at.false) }
+    record { bound = omega arith; best = left_child (behind g.C.Claim.ahead) o c.args.s.now c.args.j _ _ refl (λ d. sym (c.before_at.ensures d) ∙ c.if-before_at.false) }

@@ -5,12 +5,12 @@ use Rattle.sharing.specs.Order.{behind}
 use Rattle.sharing.proofs.Heaps.{settles, rises}
 use Rattle.sharing.proofs.sift.rise.Goals as goal
 
-pub returns-then-not-before-at : goal.returns-then-not-before-at
-returns-then-not-before-at g c =
+pub returns-then-not-before_at : goal.returns-then-not-before_at
+returns-then-not-before_at g c =
     let l = c.loop-j in
     record {
       shuffled = l.invariant.1;
-      heap = λ h p k d a b e f. settles (behind g.C.Claim.ahead) l.s l.j _ (λ d. sym (c.before-at.ensures d) ∙ c.if-not-before-at.true) (l.invariant.2 h) p k d a b e (omega arith);
+      heap = λ h p k d a b e f. settles (behind g.C.Claim.ahead) l.s l.j _ (λ d. sym (c.before_at.ensures d) ∙ c.if-not-before_at.true) (l.invariant.2 h) p k d a b e (omega arith);
     }
 
 pub loop-j-preserved : goal.loop-j-preserved

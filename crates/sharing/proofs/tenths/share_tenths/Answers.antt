@@ -10,8 +10,8 @@ use Rattle.sharing.proofs.tenths.share_tenths.Goals as goal
 
 pub returns : goal.returns
 returns g c =
-    let r = c.enter-rooms.ensures in
-    let h = c.hand-out.ensures in
+    let r = c.enter_rooms.ensures in
+    let h = c.hand_out.ensures in
     let heft = g.P.Party.heft in
     let ps = c.items.result.now in
     let same : ps ≡ c.args.parties.now.items.now = c.items.ensures.same in
@@ -21,9 +21,9 @@ returns g c =
     λ i pos. cases (cases_lt i (length ps)) (λ l. l) (λ past. absurd (omega (arith, by_place_past heft ps i past))) in
     let heavy : (i : ℕ) → 0 < fit i → 0 < w i = λ i some. (takes_some w (at_place c.args.rooms.now) i some).0 in
     let handed = h.handed r.orderly r.roomed.below.apart in
-    let given = at_place c.hand-out.result.given in
+    let given = at_place c.hand_out.result.given in
     let Outcome : (ℕ → ℕ) → Type 0 = λ v.
-    (c.hand-out.result.left ≡ c.args.rest - total (takes v (at_place c.args.rooms.now))) × ByFraction v (takes v (at_place c.args.rooms.now)) given in
+    (c.hand_out.result.left ≡ c.args.rest - total (takes v (at_place c.args.rooms.now))) × ByFraction v (takes v (at_place c.args.rooms.now)) given in
     let out : Outcome w = (
       left_is w fit _ (length ps) _ inside heavy r.roomed handed _ _ h.adds (h.exhausted r.orderly r.roomed.below.apart),
       follows_rule w fit _ (length ps) _ inside heavy r.roomed handed,

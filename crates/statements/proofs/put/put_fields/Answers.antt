@@ -12,7 +12,7 @@ pub loop-n-preserved : goal.loop-n-preserved
 loop-n-preserved c =
     let xs = c.args.fields.now in
     let i = c.loop-n.n-index in
-    (put_as (more_fields xs i (omega arith)) (put_then c.loop-n.invariant.0 c.put-field-at.ensures.put), omega (arith, c.put-field-at.ensures.short))
+    (put_as (more_fields xs i (omega arith)) (put_then c.loop-n.invariant.0 c.put_field-at.ensures.put), omega (arith, c.put_field-at.ensures.short))
 
 pub returns : goal.returns
 returns c = record { put = put_as (ap (flat_map field) (take_all c.loop-n.n-index c.args.fields.now (omega arith))) c.loop-n.invariant.0; short = omega arith }

@@ -16,6 +16,6 @@ returns c =
     let q = c.period-of.result in
     let plan = c.plan.ensures.value ∙ plan_read b p i q c.period-of.ensures in
     let read = c.reading.ensures ∙ reading_read b p i q c.period-of.ensures in
-    let is = ap (λ o. is_unit (enrolled o)) (sym c.entry-of.ensures.value) ∙ c.in-Some.ensures.0 in
+    let is = ap (λ o. is_unit (enrolled o)) (sym c.entry_of.ensures.value) ∙ c.in-Some.ensures.0 in
     let e : c.deviation.result ≡ deviation b p i = c.deviation.ensures ∙ (λ t. deviation_of (read t) (plan t)) ∙ sym (cond-true _ _ (pos 0) is) in
     omega (arith, ints)

@@ -15,7 +15,7 @@ returns c =
     let q = c.period-of.result in
     let plan = c.plan.ensures.value ∙ plan_read b p i q c.period-of.ensures in
     let read = c.reading.ensures ∙ reading_read b p i q c.period-of.ensures in
-    let is = ap (λ o. is_unit (enrolled o)) (sym c.entry-of.ensures.value) ∙ c.in-Some.ensures.0 in
+    let is = ap (λ o. is_unit (enrolled o)) (sym c.entry_of.ensures.value) ∙ c.in-Some.ensures.0 in
     let first = c.from.ensures ∙ c.call.ensures in
     let second = c.from-2.ensures ∙ c.call-2.ensures in
     record {

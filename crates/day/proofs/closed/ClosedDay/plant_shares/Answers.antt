@@ -16,7 +16,7 @@ returns c =
     let weigh : (j : ℕ) → j < 64 → (get_or items j (record { net = 0 })).net ≡ net b c.args.period c.args.area j =
     λ j l. ap (λ (xs : List Producer). (get_or xs j (record { net = 0 })).net) same ∙ rows.1 j l ∙ ap (λ g. cond (in_area (get_or b.plants j None) c.args.area) (g j) 0) c.period-of.ensures.plants in
     let part : c.split-part.result.0 ≡ producers b c.args.period c.args.area = c.split-part.ensures.producers in
-    let e = c.share-out.ensures in
+    let e = c.share_out.ensures in
     let f : Producer → ℕ = λ x. x.net in
     record {
       parts = λ j l. part_is f items (record { net = 0 }) _ long weigh c.split-part.result.0 _ j l (e.value j l) ∙ ap (λ n. share_of (net b c.args.period c.args.area) n j) part;

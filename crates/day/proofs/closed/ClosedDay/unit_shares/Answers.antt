@@ -21,7 +21,7 @@ returns c =
     λ i l. ap (λ (xs : List Payee). (get_or xs i (record { reading = 0 })).reading) same ∙ rows.1 i l
     ∙ ap (λ n. cond (in_area (payee_area (seller_at b i)) a) n 0) (reading_read b p i c.period-of.result c.period-of.ensures) in
     let sum : c.fines-sum.result ≡ fines b p a = c.fines-sum.ensures in
-    let e = c.share-out.ensures in
+    let e = c.share_out.ensures in
     let f : Payee → ℕ = λ x. x.reading in
     record {
       parts = λ i l. part_is f items (record { reading = 0 }) _ long weigh c.fines-sum.result _ i l (e.value i l) ∙ ap (λ n. share_of (payee b p a) n i) sum;

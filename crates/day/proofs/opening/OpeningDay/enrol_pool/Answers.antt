@@ -3,5 +3,5 @@ use Rattle.day.specs.Calls.{enrol_pool}
 use Rattle.day.proofs.Reach.{grow_early}
 use Rattle.day.proofs.opening.OpeningDay.enrol_pool.Goals as goal
 
-pub invariant-of-self : goal.invariant-of-self
-invariant-of-self c = (search rules, (grow_early (enrol_pool c.args.seller c.args.area c.args.capacity) c.args.self.now.reached (search rules), tt))
+pub invariant_of-self : goal.invariant_of-self
+invariant_of-self c = (search rules, (grow_early (enrol_pool c.args.seller c.args.area c.args.capacity) c.args.self.now.reached (search rules), tt))

@@ -5,10 +5,10 @@ use Rattle.day.proofs.Passing.{base_low}
 use Rattle.day.proofs.Reach.{grow}
 use Rattle.day.proofs.running.RunningDay.clear.Goals as goal
 
-pub clear-round-done-requires : goal.clear-round-done-requires
-clear-round-done-requires c =
+pub clear_round-done-requires : goal.clear_round-done-requires
+clear_round-done-requires c =
     let sound = ran_sound c.args.self.now.reached in
     record { bounds = omega arith; sound = (sound.0, base_low _ _ (sound.2 c.args.period) c.args.round) }
 
-pub invariant-of-self : goal.invariant-of-self
-invariant-of-self c = (search rules, (grow c.args.period (clear c.args.round) c.args.self.now.reached (search rules), tt))
+pub invariant_of-self : goal.invariant_of-self
+invariant_of-self c = (search rules, (grow c.args.period (clear c.args.round) c.args.self.now.reached (search rules), tt))

@@ -3,5 +3,5 @@ use Rattle.day.specs.Calls.{plan}
 use Rattle.day.proofs.Reach.{grow}
 use Rattle.day.proofs.running.RunningDay.plan.Goals as goal
 
-pub invariant-of-self : goal.invariant-of-self
-invariant-of-self c = (search rules, (grow c.args.period (plan c.args.round c.args.seller c.args.base) c.args.self.now.reached (search rules), tt))
+pub invariant_of-self : goal.invariant_of-self
+invariant_of-self c = (search rules, (grow c.args.period (plan c.args.round c.args.seller c.args.base) c.args.self.now.reached (search rules), tt))

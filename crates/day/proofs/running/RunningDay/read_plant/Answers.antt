@@ -3,5 +3,5 @@ use Rattle.day.specs.Calls.{read_plant}
 use Rattle.day.proofs.Reach.{grow}
 use Rattle.day.proofs.running.RunningDay.read_plant.Goals as goal
 
-pub invariant-of-self : goal.invariant-of-self
-invariant-of-self c = (search rules, (grow c.args.period (read_plant c.args.plant c.args.energy) c.args.self.now.reached (search rules), tt))
+pub invariant_of-self : goal.invariant_of-self
+invariant_of-self c = (search rules, (grow c.args.period (read_plant c.args.plant c.args.energy) c.args.self.now.reached (search rules), tt))

@@ -6,12 +6,12 @@ use Rattle.statements.proofs.statement.ClosedDayStatements.statement.Goals as go
 
 pub returns-then-measured-buffer : goal.returns-then-measured-buffer
 returns-then-measured-buffer c =
-    let text = says c.args.self.now.book c.args.period c.bill-of-bill.result c.bill-of-bill.ensures in
+    let text = says c.args.self.now.book c.args.period c.bill_of-bill.result c.bill_of-bill.ensures in
     let long : c.measured.result ≡ length (statement_of c.args.self.now.book c.args.period) = c.measured.ensures.value ∙ ap length text in
     record { stated = (omega arith, omega arith, refl); most = λ _. omega (arith, c.measured.ensures.most) }
 
 pub returns : goal.returns
 returns c =
-    let text = says c.args.self.now.book c.args.period c.bill-of-bill.result c.bill-of-bill.ensures in
+    let text = says c.args.self.now.book c.args.period c.bill_of-bill.result c.bill_of-bill.ensures in
     let long : c.measured.result ≡ length (statement_of c.args.self.now.book c.args.period) = c.measured.ensures.value ∙ ap length text in
-    record { stated = (omega arith, given (put_as text c.put-bill.ensures.put) (omega arith)); most = λ _. omega (arith, c.measured.ensures.most) }
+    record { stated = (omega arith, given (put_as text c.put_bill.ensures.put) (omega arith)); most = λ _. omega (arith, c.measured.ensures.most) }
