@@ -7,14 +7,14 @@ use Rattle.dayfile.proofs.program.print.Goals as goal
 pub returns-then-bytes-gt-FILE_MOST : goal.returns-then-bytes-gt-FILE_MOST
 returns-then-bytes-gt-FILE_MOST c = subst (λ t. Prints c.args.bytes.now t true) (sym c.in_ok-refusal_line.ensures) (too_long c.if-bytes-gt-FILE_MOST.true)
 
-pub returns-in_ok-list : goal.returns-in_ok-list
-returns-in_ok-list c =
+pub returns-in_ok-list-in-Closed : goal.returns-in_ok-list-in-Closed
+returns-in_ok-list-in-Closed c =
     let read = subst₂ (λ o r. Read c.args.bytes.now o (state_of r)) c.in-None.is c.in-Closed.is c.read_file-reached.ensures.read in
-    subst (λ t. Prints c.args.bytes.now t false) (sym c.in_ok-list.ensures) (listed (omega arith) read)
+    subst (λ t. Prints c.args.bytes.now t false) (sym c.in_ok-list-in-Closed.ensures) (listed (omega arith) read)
 
-pub returns-in_ok-refusal_line-2 : goal.returns-in_ok-refusal_line-2
-returns-in_ok-refusal_line-2 c =
-    let told = c.in_ok-refusal_line-2.ensures ∙ ap (X_line c.in-Some.fault.place) c.number.ensures in
+pub returns-in_ok-refusal_line-in-Some : goal.returns-in_ok-refusal_line-in-Some
+returns-in_ok-refusal_line-in-Some c =
+    let told = c.in_ok-refusal_line-in-Some.ensures ∙ ap (X_line c.in-Some.fault.place) c.number.ensures in
     let read = subst (λ o. Read c.args.bytes.now o (state_of c.read_file-reached.result.reached)) c.in-Some.is c.read_file-reached.ensures.read in
     subst (λ t. Prints c.args.bytes.now t true) (sym told) (refused (omega arith) read)
 

@@ -4,4 +4,4 @@ use Rattle.day.proofs.Reach.{grow_early}
 use Rattle.day.proofs.opening.OpeningDay.enrol_pool.Goals as goal
 
 pub invariant_of-self : goal.invariant_of-self
-invariant_of-self c = (search rules, (grow_early (enrol_pool c.args.seller c.args.area c.args.capacity) c.args.self.now.reached (search rules), tt))
+invariant_of-self c = record { long = search rules; reached = grow_early (enrol_pool c.args.seller c.args.area c.args.capacity) c.args.self.now.reached (search rules) }

@@ -24,7 +24,7 @@ invariant_of-self c =
     let whole : take c.count.result c.steps.result ≡ c.args.steps.now = (λ t. take (c.count.ensures.value t) (c.steps.ensures t)) ∙ made.1 in
     let right = subst (λ n. StepsFault n c.args.steps.now None) (c.in-Some-new.ensures.1 ∙ is.1) made.0 in
     let view = c.in-Some-with_steps.ensures.1 ∙ ap (λ ss. with_steps ss (seller_at c.args.self.now.book c.args.seller)) whole in
-    (search rules, (grow_early (offer_pool c.args.seller c.args.steps.now) c.args.self.now.reached (pass_two _ _ _ _ _ _ _ _ low is.0 (None, right, (refl, (c.in-Some-with_steps.offered, view, refl)))), tt))
+    record { long = search rules; reached = grow_early (offer_pool c.args.seller c.args.steps.now) c.args.self.now.reached (pass_two _ _ _ _ _ _ _ _ low is.0 (None, right, (refl, (c.in-Some-with_steps.offered, view, refl)))) }
 
 pub returns-in-Err : goal.returns-in-Err
 returns-in-Err c =

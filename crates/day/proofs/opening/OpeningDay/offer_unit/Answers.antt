@@ -9,7 +9,7 @@ pub invariant_of-self : goal.invariant_of-self
 invariant_of-self c =
     let low = le-ltb 63 c.args.seller c.if-seller-gt63.false in
     let is = c.in-Some.ensures in
-    (search rules, (grow_early (offer_unit c.args.seller c.args.prices) c.args.self.now.reached (pass_two _ _ _ _ _ _ _ _ low is.0 (None, c.in-Ok.ensures.made.0, (refl, (c.in-Some.offered, is.1, refl)))), tt))
+    record { long = search rules; reached = grow_early (offer_unit c.args.seller c.args.prices) c.args.self.now.reached (pass_two _ _ _ _ _ _ _ _ low is.0 (None, c.in-Ok.ensures.made.0, (refl, (c.in-Some.offered, is.1, refl)))) }
 
 pub returns-in-Err : goal.returns-in-Err
 returns-in-Err c =

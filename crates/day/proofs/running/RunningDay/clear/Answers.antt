@@ -11,4 +11,4 @@ clear_round-done-requires c =
     record { bounds = omega arith; sound = (sound.0, base_low _ _ (sound.2 c.args.period) c.args.round) }
 
 pub invariant_of-self : goal.invariant_of-self
-invariant_of-self c = (search rules, (grow c.args.period (clear c.args.round) c.args.self.now.reached (search rules), tt))
+invariant_of-self c = record { long = search rules; reached = grow c.args.period (clear c.args.round) c.args.self.now.reached (search rules) }
