@@ -1,5 +1,5 @@
 -- The offer of a tenth is the one least price that reaches it. Assumes nothing.
-use Rattle.std.proofs.Common.{◌≡◌, ℕ, zero, suc, ◌+◌, ◌<◌, ◌≤◌, cond, leb, ap, inl, inr, arith}
+use Rattle.std.proofs.Common.{◌≡◌, ℕ, zero, suc, ◌+◌, ◌<◌, ◌≤◌, leb, ap, inl, inr, arith}
 use Rattle.std.proofs.lemmas.Bool.{leb-true, leb-false, cond_both, cases_lt}
 use Rattle.clearing.specs.Prices.{Least}
 use Rattle.clearing.specs.Costs.{first_reaching, offer, Offers}

@@ -1,8 +1,8 @@
 -- The weight of a seller that offers nothing has no say. Assumes nothing.
-use Rattle.std.proofs.Common.{◌≡◌, ℕ, ◌-◌, ◌<◌, ◌≤◌, true, Some, None, Option, sym, ◌∙◌, subst, arith}
+use Rattle.std.proofs.Common.{◌≡◌, ℕ, ◌<◌, Some, None, Option, sym, ◌∙◌, arith}
 use Rattle.sharing.specs.Order.{least_first}
 use Rattle.sharing.specs.Tenths.{ByFraction}
-use Rattle.clearing.specs.Calls.{at_price, CalledAt, Priced, Clears}
+use Rattle.clearing.specs.Calls.{at_price, Priced, Clears}
 
 module _ (weights weights' : ℕ → ℕ) where
   same_rule : (rooms given : ℕ → ℕ) → ((i : ℕ) → 0 < rooms i → weights i ≡ weights' i) → ByFraction weights rooms given → ByFraction weights' rooms given

@@ -1,10 +1,9 @@
 -- The curves of a round's sellers by their numbers, and the calls made from them. Assumes nothing.
 use Rattle.std.proofs.Common.{◌≡◌, ℕ, zero, suc, ◌+◌, ◌-◌, ◌*◌, ◌<◌, ◌≤◌, List, [], ◌∷◌, map, length, get_or, sym, refl, ap, ◌∙◌, subst, arith}
 use Rattle.std.proofs.lemmas.List.{get_or-map, get_or_past, length-map}
-use Rattle.std.proofs.lemmas.Bool.{cases_lt}
 use Rattle.sharing.specs.Places.{total}
 use Rattle.sharing.specs.Tenths.{ByFraction}
-use Rattle.sharing.proofs.Sums.{cases, upto_le, upto_add, upto_same, upto_times, upto_ones, upto_zero}
+use Rattle.sharing.proofs.Sums.{upto_le, upto_add, upto_same, upto_times, upto_ones, upto_zero}
 use Rattle.sellers.specs.Curves.{Lawful}
 use Rattle.clearing.specs.Calls.{under, at_price, CalledAt}
 use Rattle.clearing.specs.Prices.{curves_at, offered, Least}

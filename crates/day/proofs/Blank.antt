@@ -1,5 +1,5 @@
 -- A blank period is read as one that is not there. Assumes nothing.
-use Rattle.std.proofs.Common.{◌≡◌, ℕ, get_or, None, refl}
+use Rattle.std.proofs.Common.{◌≡◌, get_or, None, refl}
 use Rattle.day.specs.Alike.{ReadAlike}
 use Rattle.day.specs.Reading.{no_round, no_period, blank_round, blank}
 use Rattle.day.proofs.Writes.{each_same}

@@ -1,5 +1,5 @@
 -- A call that passes its checks goes on. Assumes nothing.
-use Rattle.std.proofs.Common.{◌≡◌, ℕ, ◌≤◌, Bool, true, false, cond, not, eqb, ◌⊎◌, [], ◌∷◌, Some, None, Option, sym, refl, subst₂, inl, inr, arith}
+use Rattle.std.proofs.Common.{◌≡◌, ℕ, ◌≤◌, Bool, true, false, not, eqb, ◌⊎◌, [], ◌∷◌, Some, None, Option, sym, refl, subst₂, inl, inr, arith}
 use Rattle.std.proofs.lemmas.Bool.{both_ways, cond_both}
 use Rattle.sellers.specs.Curves.{Weighs}
 use Rattle.day.specs.declared.book.Book.{Book}

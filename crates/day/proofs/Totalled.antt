@@ -1,5 +1,5 @@
 -- The sums of a reached day balance. Assumes nothing.
-use Rattle.std.proofs.Common.{◌≡◌, ℕ, ◌+◌, sym}
+use Rattle.std.proofs.Common.{◌≡◌, ◌+◌, sym}
 use mathlib.Core.Logic.{∥∥₁_elim}
 use native.Mathlib.Nat.{ℕ_set}
 use Rattle.sharing.proofs.Sums.{upto_add}

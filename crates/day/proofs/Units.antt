@@ -1,5 +1,5 @@
 -- What is read of a unit in a period that is read alike. Assumes nothing.
-use Rattle.std.proofs.Common.{◌≡◌, ℕ, ◌-◌, ◌*◌, sym, ap, ◌∙◌}
+use Rattle.std.proofs.Common.{◌≡◌, ℕ, ◌-◌, ◌*◌}
 use Rattle.day.specs.declared.book.Book.{Book}
 use Rattle.day.specs.declared.book.Period.{Period}
 use Rattle.day.specs.Alike.{ReadAlike}

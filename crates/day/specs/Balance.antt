@@ -1,5 +1,5 @@
 -- What balances over a day, and whom a reading concerns. Assumes nothing.
-use Rattle.std.specs.Prelude.{◌≡◌, ℕ, ◌<◌, true, Some, None, Option}
+use Rattle.std.specs.Prelude.{◌≡◌, ℕ, ◌<◌, Some}
 use Rattle.sharing.specs.Places.{upto, total}
 use Rattle.day.specs.declared.book.Book.{Book}
 use Rattle.day.specs.Reading.{seller_at, plant_at, period_at, plant_read, cleared_at}

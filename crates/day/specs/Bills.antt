@@ -1,5 +1,5 @@
 -- The money of a day, read off its book: what the closed day answers. Assumes nothing.
-use Rattle.std.specs.Prelude.{ℕ, ◌+◌, ◌-◌, ◌*◌, Bool, true, false, cond, ℤ, pos, is_some, Some, None, Option, ◌==◌, nat_lt}
+use Rattle.std.specs.Prelude.{ℕ, ◌+◌, ◌-◌, ◌*◌, Bool, false, cond, ℤ, pos, is_some, Some, None, Option, ◌==◌, nat_lt}
 use Rattle.sharing.specs.Places.{upto, total}
 use Rattle.sharing.specs.Shares.{share_of}
 use Rattle.money.specs.Money.{fee_of, producers_of, users_of, deviation_of, penalty_of}

@@ -1,5 +1,5 @@
 -- What each call does to a day's book, and when it is refused. Assumes nothing.
-use Rattle.std.specs.Prelude.{◌≡◌, ℕ, ◌*◌, ◌%◌, Bool, true, false, cond, not, ◌&&◌, ◌||◌, List, [], ◌∷◌, is_some, Some, None, Ok, Err, Option, Result, ◌==◌, nat_lt}
+use Rattle.std.specs.Prelude.{◌≡◌, ℕ, ◌*◌, ◌%◌, Bool, cond, not, ◌&&◌, ◌||◌, List, [], ◌∷◌, is_some, Some, None, Ok, Err, Option, Result, ◌==◌, nat_lt}
 use Rattle.sellers.specs.Faults.{TiersFault, StepsFault}
 use Rattle.sellers.specs.declared.fault.OfferFault.{OfferFault}
 use Rattle.sellers.specs.declared.step.Step.{Step}
@@ -8,7 +8,7 @@ use Rattle.day.specs.declared.book.Cleared.{Cleared}
 use Rattle.day.specs.declared.book.Enrolled.{Enrolled}
 use Rattle.day.specs.declared.faults.Fault.{Fault}
 use Rattle.day.specs.declared.faults.Fault.TheVariants as f
-use Rattle.day.specs.Terms.{Enrolment, nobody, unit, pool, is_unit, is_pool, capacity_of, with_prices, with_steps}
+use Rattle.day.specs.Terms.{Enrolment, unit, pool, is_unit, is_pool, capacity_of, with_prices, with_steps}
 use Rattle.day.specs.Rounds.{Stands}
 use Rattle.day.specs.Reading.{enrolled, seller_at, plant_at, period_at, round_at, want_at, cleared_at, call_in, received_in, curve_in, with_seller, with_plant, with_period, with_round, with_unit_read, with_plant_read, with_want, with_plan, with_cleared}
 

@@ -1,5 +1,5 @@
 -- What the accepted calls of a day give, read off the list of calls, latest first. Assumes nothing.
-use Rattle.std.specs.Prelude.{ℕ, Bool, true, false, cond, ◌&&◌, ◌||◌, List, [], ◌∷◌, Some, None, Ok, Err, Option, ◌==◌}
+use Rattle.std.specs.Prelude.{ℕ, Bool, false, cond, ◌&&◌, ◌||◌, List, [], ◌∷◌, Some, None, Ok, Err, Option, ◌==◌}
 use Rattle.day.specs.Calls.{Answer, Early, enrol_unit, enrol_pool, enrol_plant, offer_unit, offer_pool, Late, plan, want, clear, read_unit, read_plant}
 use Rattle.day.specs.Terms.{Enrolment, nobody, unit, pool, with_prices, with_steps, base_from, called_before, curve_from}
 

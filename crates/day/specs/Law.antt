@@ -6,7 +6,7 @@ use Rattle.day.specs.Balance.{Balanced}
 use Rattle.day.specs.Bills.{call_of, price_of, brought_of, received_of}
 use Rattle.day.specs.Calls.{Answer, Early, Late, clear}
 use Rattle.day.specs.History.{accepted, enrolment, plant_in, on, latest_want, latest_plan, latest_unit_read, latest_plant_read, was_cleared, curve_given}
-use Rattle.day.specs.Reading.{seller_at, plant_at, period_at, cleared_at, brought_in, want_at, plan_at, unit_read, plant_read}
+use Rattle.day.specs.Reading.{seller_at, plant_at, period_at, cleared_at, want_at, plan_at, unit_read, plant_read}
 use Rattle.day.specs.Rounds.{Stands}
 use Rattle.day.specs.Runs.{Running, Later}
 use Rattle.day.specs.Terms.{capacity_of}

@@ -10,7 +10,7 @@ use Rattle.day.specs.declared.book.Role.{Role}
 use Rattle.day.specs.declared.book.Role.TheVariants.{Thermal, Pooled}
 use Rattle.day.specs.declared.book.Round.{Round}
 use Rattle.day.specs.declared.book.Steps.{Steps}
-use Rattle.day.specs.Terms.{Enrolment, nobody, unit, pool, base_from, called_before, curve_from, capacity_of}
+use Rattle.day.specs.Terms.{Enrolment, nobody, unit, pool, base_from, called_before, curve_from}
 
 -- What is read past the last round, and past the last period.
 abbrev pub no_round : Round

@@ -1,14 +1,13 @@
 -- Every file's day is a run of its records' calls.
-use Rattle.std.proofs.Common.{◌≡◌, ℕ, List, [], ◌∷◌, Ok, Option, sym, refl, ap, subst}
+use Rattle.std.proofs.Common.{ℕ, List, [], ◌∷◌, Ok, sym, refl, ap, subst}
 use Rattle.money.specs.declared.share.Share.{Share}
 use Rattle.day.specs.declared.book.Book.{Book}
 use Rattle.day.specs.Runs as runs
 use Rattle.day.specs.Runs.{Running}
 use Rattle.day.proofs.Balances.{balanced}
 use Rattle.day.proofs.Law.{every_day}
-use Rattle.dayfile.specs.declared.fault.FileFault.{FileFault}
 use Rattle.dayfile.specs.Account.{calls_in, earlies, lates, OpenedBy, Ran, OfCalls, FileLaw}
-use Rattle.dayfile.specs.Files.{State, unopened, opening, running, closed, Call, opening_with, early, offers_close, late, day_closes, Takes, opens, on_opening, closes_offers, on_running, closes_day, Taken, none, then_record}
+use Rattle.dayfile.specs.Files.{State, unopened, Call, opening_with, early, offers_close, late, day_closes, Takes, opens, on_opening, closes_offers, on_running, closes_day, Taken, none, then_record}
 
 ran : (cs : List Call) (b : Book) (s : Share) (more : List Call) → OpenedBy cs s more → Running s (earlies more) (lates more) b → Ran cs b
 ran cs b s more e run = (s, more, e, run, every_day balanced s (earlies more) (lates more) b run)

@@ -1,7 +1,6 @@
 -- The steps that bytes show, one step further.
-use Rattle.std.proofs.Common.{◌≡◌, ℕ, zero, suc, ◌+◌, ◌*◌, List, [], ◌∷◌, ◌++◌, get_or, drop, sym, refl, ap, ◌∙◌, arith}
+use Rattle.std.proofs.Common.{◌≡◌, ℕ, zero, suc, ◌+◌, ◌*◌, List, [], ◌∷◌, ◌++◌, drop, sym, refl, ap, ◌∙◌, arith}
 use Rattle.std.proofs.lemmas.List.{get_or-drop}
-use Rattle.sellers.specs.declared.step.Step.{Step}
 use Rattle.records.specs.Marks.{byte}
 use Rattle.dayfile.specs.Files.{step_at, steps_in}
 

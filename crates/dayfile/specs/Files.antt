@@ -1,5 +1,5 @@
 -- A day file as a run of the day's own calls: its records are taken one by one, up to the end or the first refusal. Assumes nothing.
-use Rattle.std.specs.Prelude.{◌≡◌, ℕ, zero, suc, ◌+◌, ◌*◌, ◌<◌, ◌≤◌, List, [], ◌∷◌, length, drop, Some, None, Ok, Err, Option, ◌≢◌}
+use Rattle.std.specs.Prelude.{◌≡◌, ℕ, zero, suc, ◌+◌, ◌*◌, ◌<◌, List, [], ◌∷◌, length, drop, Some, None, Ok, Err, Option, ◌≢◌}
 use Rattle.money.specs.declared.share.Share.{Share}
 use Rattle.sellers.specs.declared.step.Step.{Step}
 use Rattle.records.specs.Marks.{byte}

@@ -5,7 +5,7 @@ use Rattle.day.specs.declared.book.Book.{Book}
 use Rattle.dayfile.specs.declared.fault.FileFault.{FileFault}
 use Rattle.dayfile.specs.declared.turn.Turn.{Turn}
 use Rattle.dayfile.specs.declared.turn.Turn.TheVariants as turn
-use Rattle.dayfile.specs.Files.{State, opening, running, closed, Next, Refused, Taken, ReadFrom}
+use Rattle.dayfile.specs.Files.{opening, running, closed, Next, Refused, Taken, ReadFrom}
 
 -- An enrolment or an offer; a pool's steps are all shown.
 abbrev pub IsEarly : Item → Type 0

@@ -1,16 +1,15 @@
 -- The arithmetic of a share-out: parts rounded down, and the odd ones handed out by remainder. Assumes nothing.
-use Rattle.std.proofs.Common.{◌≡◌, ℕ, zero, suc, ◌+◌, ◌-◌, ◌*◌, ◌/◌, ◌%◌, ◌<◌, ◌≤◌, Bool, true, false, ◌⊎◌, List, None, sym, refl, ap, ◌∙◌, subst, inl, inr, mod-lt, mul_comm, mul-le-mul_left, mul-zero, mul-add, arith}
+use Rattle.std.proofs.Common.{◌≡◌, ℕ, zero, suc, ◌+◌, ◌-◌, ◌*◌, ◌/◌, ◌%◌, ◌<◌, ◌≤◌, true, false, List, None, sym, refl, ap, ◌∙◌, subst, inl, inr, mod-lt, mul_comm, mul-le-mul_left, mul-zero, mul-add, arith}
 use native.Mathlib.Nat.{div-add-mod, le_of_mul-le-mul_left, zero-div}
-use Rattle.std.specs.List.{ContainsAt as Has}
 use Rattle.std.proofs.ByRecursion.{all-has}
-use Rattle.std.proofs.lemmas.Bool.{cases_lt, cases_eq}
+use Rattle.std.proofs.lemmas.Bool.{cases_lt}
 use Rattle.std.proofs.lemmas.Bool.Decides.{nat_tests}
 use Rattle.sharing.specs.Entered.{Rounded}
 use Rattle.sharing.specs.Handed.{HandedOut, Exhausted, after}
 use Rattle.sharing.specs.Kinds.{by_remainder}
 use Rattle.sharing.specs.Order.{most_first}
 use Rattle.sharing.specs.Places.{upto, total}
-use Rattle.sharing.specs.Shares.{part_of, left_of, SharedOut, OnlyShares}
+use Rattle.sharing.specs.Shares.{part_of, left_of, SharedOut}
 use Rattle.sharing.specs.declared.remainder.Remainder.{Remainder}
 use Rattle.sharing.proofs.Sums.{cases, upto_more, upto_grows, upto_le, upto_add, upto_at, upto_past, upto_times, upto_same, upto_none, upto_ones, only_one}
 

@@ -1,6 +1,6 @@
 -- The order of fractions is total and transitive. Assumes nothing.
-use Rattle.std.specs.Prelude.{◌≡◌, ℕ, ◌+◌, ◌*◌, ◌<◌, ◌≤◌, Bool, true, false, cond, ◌==◌, nat_lt, refl}
-use Rattle.std.proofs.Common.{sym, ap, ◌∙◌, mul_right_comm, mul-le-mul_right, le_of_mul-le-mul_right, arith}
+use Rattle.std.specs.Prelude.{◌≡◌, ℕ, ◌*◌, ◌<◌, ◌≤◌, true, false, cond, ◌==◌, nat_lt}
+use Rattle.std.proofs.Common.{ap, mul_right_comm, mul-le-mul_right, le_of_mul-le-mul_right, arith}
 use Rattle.std.proofs.lemmas.Bool.Decides.{nat_tests}
 use Rattle.sharing.specs.Order.{least_first}
 

@@ -15,13 +15,13 @@ impl Claim for Remainder {
 
     ghost next = { λ _. None };
 
-    ghost ranks = { first_of (Prim.search rules, Prim.grind (arith, Self.row.coded.inj)) };
+    ghost ranks = { Prim.search rules };
 
-    ghost settles = { first_of (Prim.search rules, Prim.grind (arith, Self.row.coded.inj)) };
+    ghost settles = { Prim.search rules };
 
-    ghost later = { first_of (Prim.search rules, Prim.grind (arith, Self.row.coded.inj)) };
+    ghost later = { Prim.search rules };
 
-    ghost numbered = { first_of (Prim.search rules, Prim.grind (arith, Self.row.coded.inj)) };
+    ghost numbered = { Prim.search rules };
 
     fn before(&self, other: &Remainder) -> bool {
         if self.part == other.part {
@@ -52,11 +52,11 @@ impl Claim for Fraction {
       chain = λ x y z h k. chain (x.had + 1) x.weight x.number (y.had + 1) y.weight y.number (z.had + 1) z.weight z.number x.heavy y.heavy z.heavy h k;
     } };
 
-    ghost settles = { first_of (Prim.search rules, Prim.grind (arith, Self.row.coded.inj)) };
+    ghost settles = { Prim.search rules };
 
-    ghost later = { first_of (Prim.search rules, Prim.grind (arith, Self.row.coded.inj)) };
+    ghost later = { Prim.search rules };
 
-    ghost numbered = { first_of (Prim.search rules, Prim.grind (arith, Self.row.coded.inj)) };
+    ghost numbered = { Prim.search rules };
 
     fn before(&self, other: &Fraction) -> bool {
         let mine = (self.had as u64 + 1) * other.weight as u64;

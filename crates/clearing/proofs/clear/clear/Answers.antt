@@ -1,4 +1,4 @@
-use Rattle.std.proofs.Common.{◌≡◌, ℕ, ◌<◌, ◌≤◌, min, Some, None, ap, ◌∙◌, subst, arith}
+use Rattle.std.proofs.Common.{◌≡◌, ℕ, min, Some, None, ap, ◌∙◌, subst, arith}
 use Rattle.sharing.specs.Places.{at_place, by_place}
 use Rattle.sharing.proofs.Sums.{zeros}
 use Rattle.clearing.specs.Calls.{Clears, Short}

@@ -1,5 +1,5 @@
-use Rattle.std.proofs.Common.{◌≡◌, sym, ap, ◌∙◌, arith}
-use Rattle.sharing.specs.Places.{upto, at_place}
+use Rattle.std.proofs.Common.{sym, arith}
+use Rattle.sharing.specs.Places.{at_place}
 use Rattle.sharing.proofs.Sums.{upto_none, upto_more}
 use Rattle.clearing.proofs.powers.sum.Goals as goal
 

@@ -1,4 +1,4 @@
-use Rattle.std.proofs.Common.{◌≡◌, ◌≤◌, sym, subst}
+use Rattle.std.proofs.Common.{◌≤◌, sym, subst}
 use Rattle.day.specs.Sound.{SoundRole, SoundEntry}
 use Rattle.day.proofs.rounds.place.Goals as goal
 

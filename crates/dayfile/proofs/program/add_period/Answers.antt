@@ -1,4 +1,3 @@
-use Rattle.statements.specs.Statement.{statement_of}
 use Rattle.dayfile.proofs.Extended.{extended, given_part}
 use Rattle.dayfile.proofs.program.add_period.Goals as goal
 

@@ -1,4 +1,4 @@
-use Rattle.std.proofs.Common.{◌≡◌, ◌≤◌, vec_items, vec_len}
+use Rattle.std.proofs.Common.{◌≡◌, vec_items, vec_len}
 use Rattle.statements.specs.Lines.{each}
 use Rattle.statements.specs.Statement.{statement_of}
 use Rattle.dayfile.proofs.program.periods.Given as goal

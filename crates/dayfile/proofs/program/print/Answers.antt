@@ -1,4 +1,4 @@
-use Rattle.std.proofs.Common.{◌≡◌, true, false, sym, ap, ◌∙◌, subst, subst₂, arith}
+use Rattle.std.proofs.Common.{true, false, sym, ap, ◌∙◌, subst, subst₂, arith}
 use Rattle.dayfile.specs.Files.{Read, state_of}
 use Rattle.dayfile.specs.Printed.{X_line, Prints, too_long, refused, listed}
 use Rattle.dayfile.proofs.Turns.{not_other}

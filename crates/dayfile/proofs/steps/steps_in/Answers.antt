@@ -1,6 +1,6 @@
-use Rattle.std.proofs.Common.{◌≡◌, suc, ◌+◌, ◌*◌, [], ◌∷◌, ◌++◌, sym, ap, ◌∙◌, add-one, arith, length-set}
+use Rattle.std.proofs.Common.{[], ◌∷◌, ◌++◌, sym, ap, ◌∙◌, add-one, arith, length-set}
 use Rattle.std.proofs.lemmas.List.{take_more_set}
-use Rattle.dayfile.specs.Files.{steps_in, step_at}
+use Rattle.dayfile.specs.Files.{steps_in}
 use Rattle.dayfile.proofs.Shown.{steps_more}
 use Rattle.dayfile.proofs.steps.steps_in.Goals as goal
 

@@ -1,7 +1,6 @@
-use Rattle.std.proofs.Common.{◌≡◌, ℕ, ◌+◌, ◌*◌, ◌/◌, ◌%◌, ◌<◌, ◌≤◌, length, set, sym, refl, ap, ◌∙◌, subst, mod-lt, arith, length-set}
+use Rattle.std.proofs.Common.{◌≡◌, ℕ, ◌+◌, ◌*◌, ◌/◌, ◌%◌, ◌<◌, ◌≤◌, length, sym, refl, ap, ◌∙◌, subst, arith, length-set}
 use Rattle.std.proofs.lemmas.List.{get_or-set_same, get_or-set_other}
 use Rattle.std.proofs.lemmas.List.Sorted.{length_permutation}
-use Rattle.sharing.specs.Entered.{Rounded}
 use Rattle.sharing.specs.Places.{upto, total, at_place, by_place}
 use Rattle.sharing.specs.Shares.{part_of, left_of}
 use Rattle.sharing.specs.Waiting.{waiting, room}
@@ -9,7 +8,6 @@ use Rattle.sharing.proofs.Entering.{rounded_none, rounded_more}
 use Rattle.sharing.proofs.Rounding.{part_fits}
 use Rattle.sharing.proofs.Sums.{zeros, upto_none, upto_more, by_place_is}
 use Rattle.sharing.proofs.share.round_down.Goals as goal
-use Rattle.sharing.proofs.share.round_down.Given as given
 
 pub loop-i-init : goal.loop-i-init
 loop-i-init g c =

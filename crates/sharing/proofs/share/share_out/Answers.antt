@@ -1,13 +1,12 @@
-use Rattle.std.proofs.Common.{◌≡◌, ℕ, ◌+◌, ◌<◌, ◌≤◌, length, sym, refl, ap, ◌∙◌, subst, arith}
+use Rattle.std.proofs.Common.{◌≡◌, ℕ, ◌+◌, ◌<◌, length, sym, refl, ◌∙◌, subst, arith}
 use Rattle.std.proofs.lemmas.List.{get_or_past}
 use Rattle.std.proofs.lemmas.Bool.{cases_lt}
 use Rattle.sharing.specs.Places.{total, at_place, by_place}
 use Rattle.sharing.specs.Shares.{Shared, OnlyShares, SharedOut, share_of}
 use Rattle.sharing.proofs.ByRank.{is_share_of, share_weightless}
 use Rattle.sharing.proofs.Rounding.{none_left, both_fit, shared, only_shares, none_for_none}
-use Rattle.sharing.proofs.Sums.{cases, zeros, upto_zero, upto_at, by_place_past}
+use Rattle.sharing.proofs.Sums.{cases, zeros, upto_zero, by_place_past}
 use Rattle.sharing.proofs.share.share_out.Goals as goal
-use Rattle.sharing.proofs.share.share_out.Given as given
 
 pub returns-then-weight-eq0 : goal.returns-then-weight-eq0
 returns-then-weight-eq0 g c =

@@ -1,5 +1,5 @@
-use Rattle.std.proofs.Common.{◌≡◌, sym, ap, ◌∙◌, arith}
-use Rattle.sharing.specs.Places.{upto, by_place}
+use Rattle.std.proofs.Common.{sym, ◌∙◌, arith}
+use Rattle.sharing.specs.Places.{by_place}
 use Rattle.sharing.proofs.Sums.{upto_more, upto_none, upto_past, by_place_is, by_place_past}
 use Rattle.sharing.proofs.share.total_weight.Goals as goal
 

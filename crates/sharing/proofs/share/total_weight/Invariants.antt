@@ -1,4 +1,4 @@
-use Rattle.std.proofs.Common.{◌≡◌, ◌*◌, ◌^◌, ◌≤◌}
+use Rattle.std.proofs.Common.{◌≡◌, ◌*◌, ◌≤◌}
 use Rattle.sharing.specs.Places.{upto, by_place}
 use Rattle.sharing.proofs.share.total_weight.Given as goal
 

@@ -1,7 +1,7 @@
 use Rattle.std.proofs.Common.{sym, refl, ◌∙◌, arith}
 use Rattle.std.proofs.lemmas.List.MinMax.{IsStrictWeakOrder-flip}
 use Rattle.sharing.specs.Order.{behind}
-use Rattle.sharing.proofs.Heaps.{only_child, left_child, right_child}
+use Rattle.sharing.proofs.Heaps.{left_child, right_child}
 use Rattle.sharing.proofs.sift.first_child.Goals as goal
 
 pub returns-then-before_at : goal.returns-then-before_at

@@ -1,9 +1,8 @@
 use Rattle.std.proofs.Common.{sym, ◌∙◌, arith}
 use Rattle.std.proofs.lemmas.List.MinMax.{IsStrictWeakOrder-flip}
-use Rattle.std.proofs.lemmas.Bool.{not-true, not-false}
 use Rattle.std.proofs.lemmas.List.Sorted.{IsPermutation-trans}
 use Rattle.sharing.specs.Order.{behind}
-use Rattle.sharing.proofs.Heaps.{rests, sinks, at_leaf}
+use Rattle.sharing.proofs.Heaps.{rests, sinks}
 use Rattle.sharing.proofs.sift.sink.Goals as goal
 
 pub returns-then-not-before_at : goal.returns-then-not-before_at

@@ -1,6 +1,6 @@
-use Rattle.std.proofs.Common.{[], ap, ◌∙◌, arith}
+use Rattle.std.proofs.Common.{ap, arith}
 use Rattle.std.specs.List.{flat_map}
-use Rattle.std.proofs.lemmas.List.{take_all, take_more, flat_map_more}
+use Rattle.std.proofs.lemmas.List.{take_all}
 use Rattle.statements.specs.Lines.{field}
 use Rattle.statements.proofs.Puts.{put_none, put_then, put_as, more_fields}
 use Rattle.statements.proofs.put.put_fields.Goals as goal

@@ -1,4 +1,4 @@
-use Rattle.std.proofs.Common.{◌≡◌, ℕ, cond, sym, arith}
+use Rattle.std.proofs.Common.{ℕ, cond, sym, arith}
 use Rattle.sharing.proofs.Sums.{upto_none, upto_more}
 use Rattle.day.specs.Bills.{in_area, unit_area, penalty}
 use Rattle.day.specs.Reading.{seller_at}

@@ -1,4 +1,4 @@
-use Rattle.std.proofs.Common.{◌≡◌, ℕ, ◌*◌, ◌≤◌, cond}
+use Rattle.std.proofs.Common.{◌≡◌, ◌*◌, ◌≤◌, cond}
 use Rattle.sharing.specs.Places.{upto}
 use Rattle.day.specs.Bills.{in_area, unit_area, penalty}
 use Rattle.day.specs.Reading.{seller_at}

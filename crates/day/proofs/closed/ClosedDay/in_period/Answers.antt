@@ -1,4 +1,4 @@
-use Rattle.std.proofs.Common.{◌≡◌, sym, mul-add, arith}
+use Rattle.std.proofs.Common.{sym, mul-add, arith}
 use Rattle.sharing.proofs.Sums.{upto_none, upto_more}
 use Rattle.day.specs.Figures.{figure_of, bound_of}
 use Rattle.day.proofs.closed.ClosedDay.in_period.Goals as goal

@@ -1,7 +1,6 @@
-use Rattle.std.proofs.Common.{◌≡◌, ◌+◌, ltb, sym, ap, ◌∙◌}
+use Rattle.std.proofs.Common.{◌+◌, ltb, sym, ap, ◌∙◌}
 use Rattle.std.proofs.lemmas.Bool.{cond-true}
 use Rattle.money.specs.Money.{penalty_of}
-use Rattle.day.specs.Bills.{penalty, call_of}
 use Rattle.day.specs.Reading.{enrolled}
 use Rattle.day.specs.Terms.{is_unit}
 use Rattle.day.proofs.Units.{plan_read, reading_read}

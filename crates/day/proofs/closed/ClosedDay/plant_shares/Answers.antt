@@ -1,4 +1,4 @@
-use Rattle.std.proofs.Common.{◌≡◌, ℕ, ◌<◌, cond, eqb, List, length, get_or, None, sym, ap, ◌∙◌, subst}
+use Rattle.std.proofs.Common.{◌≡◌, ℕ, ◌<◌, cond, eqb, List, length, get_or, None, ap, ◌∙◌}
 use Rattle.sharing.specs.Places.{total}
 use Rattle.sharing.specs.Shares.{share_of}
 use Rattle.day.specs.Bills.{in_area, net, producers}

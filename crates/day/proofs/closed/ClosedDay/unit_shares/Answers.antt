@@ -1,4 +1,4 @@
-use Rattle.std.proofs.Common.{◌≡◌, ℕ, ◌<◌, cond, eqb, List, length, get_or, sym, ap, ◌∙◌}
+use Rattle.std.proofs.Common.{◌≡◌, ℕ, ◌<◌, cond, eqb, List, length, get_or, ap, ◌∙◌}
 use Rattle.sharing.specs.Places.{total}
 use Rattle.sharing.specs.Shares.{share_of}
 use Rattle.day.specs.Bills.{in_area, payee_area, payee, fines}

@@ -3,7 +3,7 @@ use Rattle.std.proofs.lemmas.Bool.{le-ltb}
 use Rattle.sellers.specs.Curves.{Weighs}
 use Rattle.sellers.specs.Faults.{StepsFault}
 use Rattle.day.specs.Calls.{offer_pool}
-use Rattle.day.specs.Reading.{enrolled, seller_at}
+use Rattle.day.specs.Reading.{seller_at}
 use Rattle.day.specs.Terms.{with_steps}
 use Rattle.day.proofs.Passing.{pass_two, rated}
 use Rattle.day.proofs.OneProof.{opened_sound}
