@@ -2,7 +2,7 @@
 use Rattle.std.proofs.Common.{◌≡◌, ℕ, zero, suc, ◌+◌, ◌-◌, ◌/◌, ◌%◌, ◌<◌, ◌≤◌, Bool, true, false, cond, eqb, ltb, List, [], ◌∷◌, ◌++◌, length, get_or, take, replicate, decimal, sym, refl, ap, ◌∙◌, inl, inr, append_assoc, arith, length-append}
 use native.Mathlib.Nat.{sub-zero}
 use Rattle.std.specs.Fmt.{digit_glyph, digits_onto, digits}
-use Rattle.std.specs.List.{flat_map, AllByRecursion as All}
+use Rattle.std.specs.List.{flat_map, AllByRecursion}
 use Rattle.std.proofs.lemmas.List.{take_at}
 use Rattle.std.proofs.lemmas.Bool.{cases_lt, cond_both}
 use Rattle.day.specs.declared.book.Book.{Book}
@@ -14,7 +14,7 @@ use Rattle.dayfile.specs.Printed.{FirstLine}
 abbrev No : ℕ → Type 0
 No x = x ≡ 10 → ⊥
 
-at_none : (text rest : List ℕ) (k : ℕ) → All No text → k < length text → get_or (text ++ rest) k 0 ≡ 10 → ⊥
+at_none : (text rest : List ℕ) (k : ℕ) → AllByRecursion No text → k < length text → get_or (text ++ rest) k 0 ≡ 10 → ⊥
 at_none [] rest k none h e = omega arith
 at_none (x ∷ xs) rest zero none h e = none.0 e
 at_none (x ∷ xs) rest (suc k) none h e = at_none xs rest k none.1 (omega arith) e
@@ -39,7 +39,7 @@ pub no_feed : (bs : List ℕ) (n : ℕ) → length bs ≤ n → ((k : ℕ) → k
 no_feed bs n long none text rest plain e =
     absurd (none (length text) (omega (arith, ap length e, length-append text (10 ∷ rest))) (ap (λ l. get_or l (length text) 0) e ∙ at_feed text rest))
 
-all_append : (xs ys : List ℕ) → All No xs → All No ys → All No (xs ++ ys)
+all_append : (xs ys : List ℕ) → AllByRecursion No xs → AllByRecursion No ys → AllByRecursion No (xs ++ ys)
 all_append [] ys none more = more
 all_append (x ∷ xs) ys none more = (none.0, all_append xs ys none.1 more)
 
@@ -51,17 +51,17 @@ glyph_plain upper d = go (ltb d 10) upper
     go false true e = omega arith
     go false false e = omega arith
 
-spelled_plain : (k base : ℕ) (upper : Bool) (n : ℕ) (acc : List ℕ) → All No acc → All No (digits_onto k base upper n acc)
+spelled_plain : (k base : ℕ) (upper : Bool) (n : ℕ) (acc : List ℕ) → AllByRecursion No acc → AllByRecursion No (digits_onto k base upper n acc)
 spelled_plain zero base upper n acc none = none
 spelled_plain (suc k) base upper n acc none =
-    let here : All No (digit_glyph upper (n % base) ∷ acc) = (glyph_plain upper (n % base), none) in
-    cond_both (eqb (n / base) 0) _ _ (All No) (λ _. here) (λ _. spelled_plain k base upper (n / base) (digit_glyph upper (n % base) ∷ acc) here)
+    let here : AllByRecursion No (digit_glyph upper (n % base) ∷ acc) = (glyph_plain upper (n % base), none) in
+    cond_both (eqb (n / base) 0) _ _ (AllByRecursion No) (λ _. here) (λ _. spelled_plain k base upper (n / base) (digit_glyph upper (n % base) ∷ acc) here)
 
-decimal_plain : (n : ℕ) → All No (decimal n)
+decimal_plain : (n : ℕ) → AllByRecursion No (decimal n)
 unfolding digits
 decimal_plain n = spelled_plain 64 10 false n [] tt
 
-fields_plain : (ns : List ℕ) → All No (flat_map field ns)
+fields_plain : (ns : List ℕ) → AllByRecursion No (flat_map field ns)
 fields_plain [] = tt
 fields_plain (n ∷ ns) = all_append (field n) (flat_map field ns) ((λ e. omega arith), decimal_plain n) (fields_plain ns)
 

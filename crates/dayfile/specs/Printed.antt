@@ -1,6 +1,6 @@
 -- What the program prints of a file's bytes. Assumes nothing.
 use Rattle.std.specs.Prelude.{◌≡◌, ℕ, ◌+◌, ◌<◌, ◌≤◌, Bool, true, false, List, [], ◌∷◌, ◌++◌, length, Some, None, ◌≢◌}
-use Rattle.std.specs.List.{AllByRecursion as All}
+use Rattle.std.specs.List.{AllByRecursion}
 use Rattle.day.specs.declared.book.Book.{Book}
 use Rattle.statements.specs.Lines.{line, each}
 use Rattle.statements.specs.Statement.{statement_of, total_text}
@@ -24,4 +24,4 @@ pub data Prints (bs : List ℕ) : List ℕ → Bool → Type 0 where
 
 -- Where the bytes begin with a text without line feeds and a line feed, these are n bytes.
 abbrev pub FirstLine : List ℕ → ℕ → Type 0
-FirstLine bs n = (text rest : List ℕ) → All (λ x. x ≢ 10) text → bs ≡ text ++ 10 ∷ rest → n ≡ length text + 1
+FirstLine bs n = (text rest : List ℕ) → AllByRecursion (λ x. x ≢ 10) text → bs ≡ text ++ 10 ∷ rest → n ≡ length text + 1

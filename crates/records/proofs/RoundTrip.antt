@@ -2,23 +2,23 @@
 use Rattle.std.proofs.Common.{◌≡◌, ℕ, zero, suc, ◌+◌, ◌*◌, ◌/◌, ◌%◌, ◌<◌, ◌≤◌, Bool, true, false, cond, ◌&&◌, eqb, ltb, List, [], ◌∷◌, ◌++◌, length, get_or, take, drop, Some, None, Ok, Err, codes, Option, sym, refl, ap, ◌∙◌, subst, arith, length-append, length-drop, ltb-false, eqb-true}
 use Rattle.std.proofs.lemmas.Bool.{le-ltb}
 use Rattle.std.proofs.lemmas.List.{length-take-le, take_at, drop_more, drop-drop, get_or-drop, take-append-drop}
-use Rattle.std.specs.List.{AllByRecursion as All}
+use Rattle.std.specs.List.{AllByRecursion}
 use Rattle.records.specs.declared.kind.Kind.{Kind}
 use Rattle.records.specs.declared.kind.Kind.TheVariants as k
 use Rattle.records.specs.declared.kind.Stage.{Stage}
 use Rattle.records.specs.declared.kind.Stage.TheVariants as s
 use Rattle.records.specs.declared.fault.RecordFault.TheVariants as f
-use Rattle.records.specs.Marks.{byte, marks, lookUp, kind_of, stageFor, stageIs}
-use Rattle.records.specs.Records.{Item, open_day, enrol_unit, enrol_pool, enrol_plant, offer_unit, offer_pool, close_offers, plan, want, clear, read_unit, read_plant, close_day, kindFor, size, said, by_kind, body_of, sized}
+use Rattle.records.specs.Marks.{byte, marks, look_up, kind_of, stage_for, stage_is}
+use Rattle.records.specs.Records.{Item, open_day, enrol_unit, enrol_pool, enrol_plant, offer_unit, offer_pool, close_offers, plan, want, clear, read_unit, read_plant, close_day, kind_for, size, said, by_kind, body_of, sized}
 use Rattle.records.specs.Format.{written, Whole, ReadsBack, WasWritten, two, four}
 use Rattle.records.proofs.Within.{said_good, Good}
 
 -- From a record to its bytes and back.
 
-marked : (st : Stage) (a b : ℕ) (body : List ℕ) (kind : Kind) → lookUp marks a b ≡ Some kind → stageIs (stageFor kind) st ≡ true → said st (a ∷ b ∷ body) ≡ body_of kind body
+marked : (st : Stage) (a b : ℕ) (body : List ℕ) (kind : Kind) → look_up marks a b ≡ Some kind → stage_is (stage_for kind) st ≡ true → said st (a ∷ b ∷ body) ≡ body_of kind body
 marked st a b body kind here fits =
     let long : ltb (length (a ∷ b ∷ body)) 2 ≡ false = le-ltb _ _ (omega arith) in
-    ap (λ t. cond t (Err f.Cut) (by_kind st (lookUp marks a b) body)) long ∙ (ap (λ o. by_kind st o body) here ∙ ap (λ t. cond t (body_of kind body) (Err f.Misplaced)) fits)
+    ap (λ t. cond t (Err f.Cut) (by_kind st (look_up marks a b) body)) long ∙ (ap (λ o. by_kind st o body) here ∙ ap (λ t. cond t (body_of kind body) (Err f.Misplaced)) fits)
 
 long_enough : (body : List ℕ) (n : ℕ) (x : Item) → n ≤ length body → sized body n x ≡ Ok x
 long_enough body n x h = ap (λ t. cond t (Err f.Cut) (Ok x)) (le-ltb _ _ h)
@@ -29,7 +29,7 @@ two_back n = omega arith
 four_back : (n : ℕ) → 16777216 * (n / 16777216) + 65536 * (n / 65536 % 256) + 256 * (n / 256 % 256) + n % 256 ≡ n
 four_back n = omega arith
 
-back : (x : Item) (rest : List ℕ) → Whole x → said (stageFor (kindFor x)) (written x ++ rest) ≡ Ok x
+back : (x : Item) (rest : List ℕ) → Whole x → said (stage_for (kind_for x)) (written x ++ rest) ≡ Ok x
 back (open_day share) rest h = marked s.Unopened 68 65 (two share ++ rest) k.Open refl refl ∙ (long_enough (two share ++ rest) 2 _ (omega arith) ∙ ap (λ n. Ok (open_day n)) (two_back share))
 back (enrol_unit seller area capacity floor) rest h =
     let body = seller ∷ area ∷ (two capacity ++ (two floor ++ rest)) in
@@ -102,17 +102,17 @@ abbrev Own : List ℕ × Kind → Type 0
 Own m = mark_of m.1 ≡ byte m.0 0 ∷ byte m.0 1 ∷ []
 
 -- A table whose entries are the kinds' own marks finds them.
-found : (ms : List (List ℕ × Kind)) (a b : ℕ) (kind : Kind) → All Own ms → lookUp ms a b ≡ Some kind → mark_of kind ≡ a ∷ b ∷ []
+found : (ms : List (List ℕ × Kind)) (a b : ℕ) (kind : Kind) → AllByRecursion Own ms → look_up ms a b ≡ Some kind → mark_of kind ≡ a ∷ b ∷ []
 found [] a b kind own e = absurd (let z : ◌≡◌ {A = ℕ} 0 1 = cc in omega arith)
 found (m ∷ ms) a b kind own e = go (eqb a (byte m.0 0)) (eqb b (byte m.0 1)) refl refl (found ms a b kind own.1) e
   where
-    go : (s t : Bool) → eqb a (byte m.0 0) ≡ s → eqb b (byte m.0 1) ≡ t → (lookUp ms a b ≡ Some kind → mark_of kind ≡ a ∷ b ∷ []) → cond (s && t) (Some m.1) (lookUp ms a b) ≡ Some kind → mark_of kind ≡ a ∷ b ∷ []
+    go : (s t : Bool) → eqb a (byte m.0 0) ≡ s → eqb b (byte m.0 1) ≡ t → (look_up ms a b ≡ Some kind → mark_of kind ≡ a ∷ b ∷ []) → cond (s && t) (Some m.1) (look_up ms a b) ≡ Some kind → mark_of kind ≡ a ∷ b ∷ []
     go true true ea eb later h = let e1 = eqb-true _ _ ea in let e2 = eqb-true _ _ eb in let o = own.0 in cc
     go true false ea eb later h = later h
     go false true ea eb later h = later h
     go false false ea eb later h = later h
 
-own_marks : All Own marks
+own_marks : AllByRecursion Own marks
 own_marks = (refl, (refl, (refl, (refl, (refl, (refl, (refl, (refl, (refl, (refl, (refl, (refl, (refl, tt)))))))))))))
 
 -- The n bytes from i on, one by one.
@@ -202,7 +202,7 @@ starts st bs x small e = go (ltb (length bs) 2) refl (kind_of bs) refl e
     go : (t : Bool) → ltb (length bs) 2 ≡ t → (o : Option Kind) → kind_of bs ≡ o → cond t (Err f.Cut) (by_kind st o (drop 2 bs)) ≡ Ok x → Starts bs x
     go true t o k e1 = absurd (let z : ◌≡◌ {A = ℕ} 0 1 = cc in omega arith)
     go false t None k e1 = absurd (let z : ◌≡◌ {A = ℕ} 0 1 = cc in omega arith)
-    go false t (Some kind) k e1 = by kind t k (stageIs (stageFor kind) st) e1
+    go false t (Some kind) k e1 = by kind t k (stage_is (stage_for kind) st) e1
 
 pub was_written : WasWritten
 was_written st bs x small e =

@@ -5,15 +5,15 @@ use Rattle.records.specs.declared.kind.Kind.TheVariants as k
 use Rattle.records.specs.declared.kind.Stage.{Stage}
 use Rattle.records.specs.declared.fault.RecordFault.{RecordFault}
 use Rattle.records.specs.declared.fault.RecordFault.TheVariants as f
-use Rattle.records.specs.Marks.{byte, kind_of, stageFor, stageIs}
-use Rattle.records.specs.Records.{Item, kindFor, size, said, body_of, by_kind, sized}
+use Rattle.records.specs.Marks.{byte, kind_of, stage_for, stage_is}
+use Rattle.records.specs.Records.{Item, kind_for, size, said, body_of, by_kind, sized}
 
 -- A record that was read is of that kind, and takes no more than n bytes.
 abbrev Fits : Kind → ℕ → Result Item RecordFault → Type 0
-Fits kind n (Ok x) = (kindFor x ≡ kind) × (size x ≤ n)
+Fits kind n (Ok x) = (kind_for x ≡ kind) × (size x ≤ n)
 Fits kind n (Err e) = Unit {0}
 
-sized_fits : (kind : Kind) (body : List ℕ) (n : ℕ) (x : Item) → kindFor x ≡ kind → size x ≤ 2 + n → Fits kind (2 + length body) (sized body n x)
+sized_fits : (kind : Kind) (body : List ℕ) (n : ℕ) (x : Item) → kind_for x ≡ kind → size x ≤ 2 + n → Fits kind (2 + length body) (sized body n x)
 sized_fits kind body n x same h = go (ltb (length body) n) refl
   where
     go : (t : Bool) → ltb (length body) n ≡ t → Fits kind (2 + length body) (cond t (Err f.Cut) (Ok x))
@@ -41,18 +41,18 @@ body_fits k.CloseDay body = (refl, omega arith)
 
 -- A record that was read is for the stage st, and takes no more than n bytes.
 abbrev pub Good : Stage → ℕ → Result Item RecordFault → Type 0
-Good st n (Ok x) = (stageIs (stageFor (kindFor x)) st ≡ true) × (size x ≤ n)
+Good st n (Ok x) = (stage_is (stage_for (kind_for x)) st ≡ true) × (size x ≤ n)
 Good st n (Err e) = Unit {0}
 
-good : (st : Stage) (kind : Kind) (n : ℕ) (o : Result Item RecordFault) → stageIs (stageFor kind) st ≡ true → Fits kind n o → Good st n o
-good st kind n (Ok x) h fits = (subst (λ j. stageIs (stageFor j) st ≡ true) (sym fits.0) h, fits.1)
+good : (st : Stage) (kind : Kind) (n : ℕ) (o : Result Item RecordFault) → stage_is (stage_for kind) st ≡ true → Fits kind n o → Good st n o
+good st kind n (Ok x) h fits = (subst (λ j. stage_is (stage_for j) st ≡ true) (sym fits.0) h, fits.1)
 good st kind n (Err e) h fits = tt
 
 by_kind_good : (st : Stage) (o : Option Kind) (body : List ℕ) → Good st (2 + length body) (by_kind st o body)
 by_kind_good st None body = tt
-by_kind_good st (Some kind) body = go (stageIs (stageFor kind) st) refl
+by_kind_good st (Some kind) body = go (stage_is (stage_for kind) st) refl
   where
-    go : (t : Bool) → stageIs (stageFor kind) st ≡ t → Good st (2 + length body) (cond t (body_of kind body) (Err f.Misplaced))
+    go : (t : Bool) → stage_is (stage_for kind) st ≡ t → Good st (2 + length body) (cond t (body_of kind body) (Err f.Misplaced))
     go true e = good st kind (2 + length body) (body_of kind body) e (body_fits kind body)
     go false e = tt
 

@@ -1,8 +1,8 @@
 -- How each record is written, and that reading and writing agree. Assumes nothing.
 use Rattle.std.specs.Prelude.{◌≡◌, ℕ, ◌*◌, ◌/◌, ◌%◌, ◌<◌, true, List, [], ◌∷◌, ◌++◌, length, drop, Ok, codes, slice_index}
 use Rattle.records.specs.declared.kind.Stage.{Stage}
-use Rattle.records.specs.Marks.{stageFor, stageIs}
-use Rattle.records.specs.Records.{Item, open_day, enrol_unit, enrol_pool, enrol_plant, offer_unit, offer_pool, close_offers, plan, want, clear, read_unit, read_plant, close_day, kindFor, size, said}
+use Rattle.records.specs.Marks.{stage_for, stage_is}
+use Rattle.records.specs.Records.{Item, open_day, enrol_unit, enrol_pool, enrol_plant, offer_unit, offer_pool, close_offers, plan, want, clear, read_unit, read_plant, close_day, kind_for, size, said}
 
 -- A number in one byte.
 abbrev pub one : ℕ → List ℕ
@@ -50,8 +50,8 @@ Whole close_day = Unit {0}
 
 -- What is written is read back, whatever follows it, and takes as many bytes as the record is said to.
 abbrev pub ReadsBack : Type 0
-ReadsBack = (x : Item) (rest : List ℕ) → Whole x → (said (stageFor (kindFor x)) (written x ++ rest) ≡ Ok x) × (length (written x) ≡ size x)
+ReadsBack = (x : Item) (rest : List ℕ) → Whole x → (said (stage_for (kind_for x)) (written x ++ rest) ≡ Ok x) × (length (written x) ≡ size x)
 
 -- Nothing else is read: where bytes are read as a record, it is one for the stage, they begin with its writing, and it takes as many bytes as that.
 abbrev pub WasWritten : Type 0
-WasWritten = (st : Stage) (bs : List ℕ) (x : Item) → ((i : ℕ) → slice_index bs i < 256) → said st bs ≡ Ok x → (stageIs (stageFor (kindFor x)) st ≡ true) × (bs ≡ written x ++ drop (size x) bs) × (length (written x) ≡ size x)
+WasWritten = (st : Stage) (bs : List ℕ) (x : Item) → ((i : ℕ) → slice_index bs i < 256) → said st bs ≡ Ok x → (stage_is (stage_for (kind_for x)) st ≡ true) × (bs ≡ written x ++ drop (size x) bs) × (length (written x) ≡ size x)

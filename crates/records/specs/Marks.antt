@@ -35,29 +35,29 @@ marks =
     (codes "CD", k.CloseDay) ∷ []
 
 -- The kind whose mark in the table is the bytes a and b, if there is one.
-abbrev pub lookUp : List (List ℕ × Kind) → ℕ → ℕ → Option Kind
-lookUp [] a b = None
-lookUp (m ∷ ms) a b = cond (a == byte m.0 0 && b == byte m.0 1) (Some m.1) (lookUp ms a b)
+abbrev pub look_up : List (List ℕ × Kind) → ℕ → ℕ → Option Kind
+look_up [] a b = None
+look_up (m ∷ ms) a b = cond (a == byte m.0 0 && b == byte m.0 1) (Some m.1) (look_up ms a b)
 
 -- The kind that the first two bytes name.
 abbrev pub kind_of : List ℕ → Option Kind
-kind_of bs = lookUp marks (byte bs 0) (byte bs 1)
+kind_of bs = look_up marks (byte bs 0) (byte bs 1)
 
 -- The stage of the day that a kind of record is for; a closed day takes none.
-abbrev pub stageFor : Kind → Stage
-stageFor k.Open = s.Unopened
-stageFor k.EnrolUnit = s.Opening
-stageFor k.EnrolPool = s.Opening
-stageFor k.EnrolPlant = s.Opening
-stageFor k.OfferUnit = s.Opening
-stageFor k.OfferPool = s.Opening
-stageFor k.CloseOffers = s.Opening
-stageFor k.Plan = s.Running
-stageFor k.Want = s.Running
-stageFor k.Clear = s.Running
-stageFor k.ReadUnit = s.Running
-stageFor k.ReadPlant = s.Running
-stageFor k.CloseDay = s.Running
+abbrev pub stage_for : Kind → Stage
+stage_for k.Open = s.Unopened
+stage_for k.EnrolUnit = s.Opening
+stage_for k.EnrolPool = s.Opening
+stage_for k.EnrolPlant = s.Opening
+stage_for k.OfferUnit = s.Opening
+stage_for k.OfferPool = s.Opening
+stage_for k.CloseOffers = s.Opening
+stage_for k.Plan = s.Running
+stage_for k.Want = s.Running
+stage_for k.Clear = s.Running
+stage_for k.ReadUnit = s.Running
+stage_for k.ReadPlant = s.Running
+stage_for k.CloseDay = s.Running
 
 -- The stages in their order.
 abbrev place : Stage → ℕ
@@ -67,8 +67,8 @@ place s.Running = 2
 place s.Closed = 3
 
 -- The two stages are one.
-abbrev pub stageIs : Stage → Stage → Bool
-stageIs a b = place a == place b
+abbrev pub stage_is : Stage → Stage → Bool
+stage_is a b = place a == place b
 
 -- The bytes begin with the mark of that kind, and the body is what follows it.
 abbrev pub Marked : List ℕ → Kind → List ℕ → Type 0

@@ -7,7 +7,7 @@ use Rattle.records.specs.declared.kind.Kind.TheVariants as k
 use Rattle.records.specs.declared.kind.Stage.{Stage}
 use Rattle.records.specs.declared.fault.RecordFault.{RecordFault}
 use Rattle.records.specs.declared.fault.RecordFault.TheVariants as f
-use Rattle.records.specs.Marks.{byte, kind_of, stageFor, stageIs}
+use Rattle.records.specs.Marks.{byte, kind_of, stage_for, stage_is}
 
 -- A record, with the bytes that it shows written out.
 pub data Item : Type 0 where
@@ -42,20 +42,20 @@ shown (r.ReadPlant w p e) = read_plant w p e
 shown r.CloseDay = close_day
 
 -- The kind of a record.
-abbrev pub kindFor : Item → Kind
-kindFor (open_day a) = k.Open
-kindFor (enrol_unit a b c d) = k.EnrolUnit
-kindFor (enrol_pool a b c) = k.EnrolPool
-kindFor (enrol_plant a b) = k.EnrolPlant
-kindFor (offer_unit a b) = k.OfferUnit
-kindFor (offer_pool a b c) = k.OfferPool
-kindFor close_offers = k.CloseOffers
-kindFor (plan a b c d) = k.Plan
-kindFor (want a b c d) = k.Want
-kindFor (clear a b) = k.Clear
-kindFor (read_unit a b c) = k.ReadUnit
-kindFor (read_plant a b c) = k.ReadPlant
-kindFor close_day = k.CloseDay
+abbrev pub kind_for : Item → Kind
+kind_for (open_day a) = k.Open
+kind_for (enrol_unit a b c d) = k.EnrolUnit
+kind_for (enrol_pool a b c) = k.EnrolPool
+kind_for (enrol_plant a b) = k.EnrolPlant
+kind_for (offer_unit a b) = k.OfferUnit
+kind_for (offer_pool a b c) = k.OfferPool
+kind_for close_offers = k.CloseOffers
+kind_for (plan a b c d) = k.Plan
+kind_for (want a b c d) = k.Want
+kind_for (clear a b) = k.Clear
+kind_for (read_unit a b c) = k.ReadUnit
+kind_for (read_plant a b c) = k.ReadPlant
+kind_for close_day = k.CloseDay
 
 -- How many bytes a record takes, its mark among them.
 abbrev pub size : Item → ℕ
@@ -109,7 +109,7 @@ body_of k.CloseDay body = Ok close_day
 -- What a mark's kind and the bytes after it say: an unknown mark is refused first, then one that is wrong for the stage, then a body that is not all there.
 abbrev pub by_kind : Stage → Option Kind → List ℕ → Result Item RecordFault
 by_kind st None body = Err f.Unknown
-by_kind st (Some kind) body = cond (stageIs (stageFor kind) st) (body_of kind body) (Err f.Misplaced)
+by_kind st (Some kind) body = cond (stage_is (stage_for kind) st) (body_of kind body) (Err f.Misplaced)
 
 -- What stands at the start of the bytes, for a day at that stage.
 abbrev pub said : Stage → List ℕ → Result Item RecordFault

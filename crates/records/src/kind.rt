@@ -1,6 +1,6 @@
 // The kinds of record, and the stage of the day that each is for.
 ghost use Rattle.std.specs.Prelude.{◌≡◌};
-ghost use Rattle.records.specs.Marks.{stageFor, stageIs};
+ghost use Rattle.records.specs.Marks.{stage_for, stage_is};
 
 #[derive(Clone, Copy)]
 pub enum Kind {
@@ -30,7 +30,7 @@ pub enum Stage {
 impl Kind {
     // Whether a day at that stage takes records of this kind.
     pub(crate) fn is_for(self, stage: Stage) -> bool
-        ensures { result ≡ stageIs (stageFor self) stage }
+        ensures { result ≡ stage_is (stage_for self) stage }
     {
         match self {
             Kind::Open => matches!(stage, Stage::Unopened),

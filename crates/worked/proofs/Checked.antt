@@ -1,7 +1,7 @@
 -- Tests of a case, which compute on numerals: a case that passes them holds. Assumes nothing.
 use Rattle.std.proofs.Common.{◌≡◌, ℕ, zero, suc, ◌+◌, ◌-◌, ◌*◌, ◌/◌, ◌%◌, ◌<◌, ◌≤◌, min, Bool, true, cond, ◌&&◌, ◌||◌, eqb, ltb, leb, List, [], ◌∷◌, map, length, Some, None, Option, sym, refl, ap, ◌∙◌, inl, inr, mul-le-mul_right, mul-zero, arith}
 use native.Mathlib.Nat.{zero-div, zero-mod}
-use Rattle.std.specs.List.{AllByRecursion as All}
+use Rattle.std.specs.List.{AllByRecursion}
 use Rattle.std.proofs.lemmas.List.{get_or_past, length-map}
 use Rattle.std.proofs.lemmas.Bool.{and_parts, or_cases, cases_lt, cases_eq, cases_Bool, cond-true, cond-false, lt-ltb, eq-eqb, and_from, leb-true, ltb-true, eqb-true}
 use Rattle.std.proofs.lemmas.Bool.Decides.{nat_tests}
@@ -31,7 +31,7 @@ abbrev all_pass : List Bool → Bool
 all_pass [] = true
 all_pass (b ∷ bs) = b && all_pass bs
 
-each_passes : (bs : List Bool) → all_pass bs ≡ true → All (λ b. b ≡ true) bs
+each_passes : (bs : List Bool) → all_pass bs ≡ true → AllByRecursion (λ b. b ≡ true) bs
 each_passes [] e = tt
 each_passes (b ∷ bs) e = let both = and_parts _ _ e in (both.0, each_passes bs both.1)
 
@@ -211,7 +211,7 @@ failing [] = []
 failing (c ∷ cs) = cond (passes c) (failing cs) (c ∷ failing cs)
 
 -- Where none fails, all hold.
-pub all_hold : (cs : List Case) → failing cs ≡ [] → All Holds cs
+pub all_hold : (cs : List Case) → failing cs ≡ [] → AllByRecursion Holds cs
 all_hold [] e = tt
 all_hold (c ∷ cs) e = cases (cases_Bool (passes c))
     (λ pass. (holds c pass, all_hold cs (sym (cond-true (passes c) (failing cs) (c ∷ failing cs) pass) ∙ e)))

@@ -2,12 +2,12 @@
 
 #![tactic(auto)]
 
-ghost use Rattle.std.specs.List.{AllByRecursion as All};
+ghost use Rattle.std.specs.List.{AllByRecursion};
 ghost use Rattle.worked.specs.Cases.{Holds, worked};
 
 // Every worked case holds.
 pub fn worked_cases() -> u8
-    ensures { All Holds worked }
+    ensures { AllByRecursion Holds worked }
 {
     0
 }
