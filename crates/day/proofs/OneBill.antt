@@ -17,7 +17,7 @@ part_same : (o : Option ℕ) (w w' : ℕ → ℕ → ℕ) (m m' : ℕ → ℕ) (
 part_same None w w' m m' j weights amounts = refl
 part_same (Some a) w w' m m' j weights amounts = λ t. share_of (weights a t) (amounts a refl t) j
 
-module _ (b b' : Book) (placed : (j a : ℕ) → plant_at b j ≡ Some a → a < 8) (same : SameDay b b') where
+module _ (b b' : Book) (same : SameDay b b') where
   wanted : (p k : ℕ) → bill.wanted_of b k p ≡ bill.wanted_of b' k p
   wanted p k = λ t. cond (same.cleared p k t) (total (λ a. same.wants p k a t)) 0
 
@@ -38,7 +38,7 @@ module _ (b b' : Book) (placed : (j a : ℕ) → plant_at b j ≡ Some a → a <
 
   plant_charge : (p j : ℕ) → bill.plant_charge b p j ≡ bill.plant_charge b' p j
   plant_charge p j =
-      part_same (plant_at b j) (bill.net b p) (bill.net b' p) (bill.producers b p) (bill.producers b' p) j (λ a. fun_ext (net p a)) (λ a is. producers p a (placed j a is))
+      part_same (plant_at b j) (bill.net b p) (bill.net b' p) (bill.producers b p) (bill.producers b' p) j (λ a. fun_ext (net p a)) (λ a is. producers p a (same.placed j a is))
       ∙ ap (λ o. part_in o (bill.net b' p) (bill.producers b' p) j) (same.plants j)
 
   uncarried_charge : (p a : ℕ) → a < 8 → bill.uncarried_charge b p a ≡ bill.uncarried_charge b' p a

@@ -1,5 +1,5 @@
 -- A day is settled by its calls: the same calls have the same answers, and the same is read of the day.
-use Rattle.std.proofs.Common.{◌≡◌, ℕ, List, ◌∷◌, is_some, Some, None, Ok, Err, Option, sym, refl, ap, ◌∙◌, subst, subst₂, arith}
+use Rattle.std.proofs.Common.{◌≡◌, ℕ, ◌<◌, ◌≤◌, List, ◌∷◌, is_some, Some, None, Ok, Err, Option, sym, refl, ap, ◌∙◌, subst, subst₂, arith}
 use Rattle.std.proofs.lemmas.List.{get_or_past}
 use Rattle.std.proofs.lemmas.Bool.{cases_lt}
 use Rattle.money.specs.declared.share.Share.{Share}
@@ -13,11 +13,13 @@ use Rattle.day.specs.declared.faults.Fault.{Fault}
 use Rattle.day.specs.Calls.{Answer, Answered, Checked, as_fault, first_hit, Early, enrol_unit, enrol_pool, enrol_plant, offer_unit, offer_pool, Late, plan, want, clear, read_unit, read_plant, enrol_unit_checks, enrol_pool_checks, enrol_plant_checks, offer_unit_checks, offer_pool_checks, plan_checks, want_checks, clear_checks, read_unit_checks, read_plant_checks, EarlyDoes, Does}
 use Rattle.day.specs.History.{on}
 use Rattle.day.specs.Only.{asked, SameDay, OnlyDay}
-use Rattle.day.specs.Reading.{no_period, seller_at, period_at, want_at, plan_at, unit_read, plant_read, cleared_at}
+use Rattle.day.specs.Reading.{no_period, seller_at, plant_at, period_at, want_at, plan_at, unit_read, plant_read, cleared_at}
 use Rattle.day.specs.Runs.{Opening, opens, then_early, Running, starts, then_late}
+use Rattle.day.specs.Sound.{AtMost}
 use Rattle.day.specs.Terms.{capacity_of}
 use Rattle.day.proofs.Days.{DayAgrees, late}
 use Rattle.day.proofs.OneRound.{SameRound, one_round}
+use Rattle.day.proofs.Soundness.{sound}
 
 -- what is answered where so much is found wrong
 
@@ -96,12 +98,13 @@ module _ (s : Share) (es : List Early) (ls : List (ℕ × Late)) (b b' : Book) (
       })
       (λ high. subst₂ SamePeriod (sym (get_or_past b.periods p no_period (omega (arith, was.long)))) (sym (get_or_past b'.periods p no_period (omega (arith, was'.long)))) (as_itself no_period))
 
-  one_reading : SameDay b b'
-  one_reading =
+  one_reading : ((j a : ℕ) → plant_at b j ≡ Some a → a < 8) → SameDay b b'
+  one_reading placed =
       record {
         share = ap (λ x. x.thousandths) (was.share ∙ sym was'.share);
         sellers = λ i. was.sellers i ∙ sym (was'.sellers i);
         plants = λ j. was.plants j ∙ sym (was'.plants j);
+        placed = placed;
         wants = λ p. (one_period p).wants;
         plans = λ p. (one_period p).plans;
         unit_reads = λ p. (one_period p).units;
@@ -114,7 +117,7 @@ module _ (s : Share) (es : List Early) (ls : List (ℕ × Late)) (b b' : Book) (
       }
 
 pub one_running : (s : Share) {es : List (Early × Answer)} {ls : List ((ℕ × Late) × Answer)} {b b' : Book} → Running s es ls b → Running s es ls b' → SameDay b b'
-one_running s run run' = one_reading s _ _ _ _ (late s run) (late s run')
+one_running s run run' = one_reading s _ _ _ _ (late s run) (late s run') (λ j a is. let l : a ≤ 7 = subst (AtMost 7) is ((sound s run).1 j) in omega arith)
 
 pub one_opening : (s : Share) {es : List (Early × Answer)} {b b' : Book} → Opening s es b → Opening s es b' → SameDay b b'
 one_opening s run run' = one_running s (starts run) (starts run')

@@ -13,11 +13,12 @@ abbrev pub asked : {C : Type 0} → List (C × Answer) → List C
 asked [] = []
 asked (e ∷ es) = e.0 ∷ asked es
 
--- Two days of which the same is read: the share, the sellers and plants, the wants, plans and readings, and of each round whether it is cleared and its figures: what was brought, the price, the calls and what each of the eight areas received.
+-- Two days of which the same is read, and whose plants belong to areas there are: the share, the sellers and plants, the wants, plans and readings, and of each round whether it is cleared and its figures: what was brought, the price, the calls and what each of the eight areas received.
 pub record SameDay (b b' : Book) : Type 0 where
   pub share : b.share.thousandths ≡ b'.share.thousandths
   pub sellers : (i : ℕ) → seller_at b i ≡ seller_at b' i
   pub plants : (j : ℕ) → plant_at b j ≡ plant_at b' j
+  pub placed : (j a : ℕ) → plant_at b j ≡ Some a → a < 8
   pub wants : (p k a : ℕ) → want_at (period_at b p) k a ≡ want_at (period_at b' p) k a
   pub plans : (p k i : ℕ) → plan_at (period_at b p) k i ≡ plan_at (period_at b' p) k i
   pub unit_reads : (p i : ℕ) → unit_read (period_at b p) i ≡ unit_read (period_at b' p) i
@@ -56,6 +57,6 @@ pub record SameBill (b b' : Book) : Type 0 where
   pub penalties : bill.penalties b ≡ bill.penalties b'
   pub refunds : bill.refunds b ≡ bill.refunds b'
 
--- Days of which the same is read, and whose plants belong to areas there are, answer every question alike.
+-- Days of which the same is read answer every question alike.
 abbrev pub SameBills : Type 0
-SameBills = (b b' : Book) → ((j a : ℕ) → plant_at b j ≡ Some a → a < 8) → SameDay b b' → SameBill b b'
+SameBills = (b b' : Book) → SameDay b b' → SameBill b b'
