@@ -1,7 +1,7 @@
 // The two kinds of claim as claims: to an odd tenth or fen, by remainder, and to the next tenth, by fraction.
 ghost use Rattle.std.specs.Prelude.{◌≡◌, ◌+◌, None};
 ghost use Rattle.sharing.specs.Kinds.{by_remainder, by_fraction, next_tenth};
-ghost use Rattle.std.proofs.Common.{rules, arith};
+ghost use Rattle.std.proofs.Common.{rules};
 ghost use Rattle.sharing.specs.Fractions.{one_way, chain};
 
 use super::claim::Claim;
