@@ -1,6 +1,6 @@
 -- The curves of a round's sellers by their numbers, and the calls made from them. Assumes nothing.
-use Rattle.std.proofs.Common.{◌≡◌, ℕ, zero, suc, ◌+◌, ◌-◌, ◌*◌, ◌<◌, ◌≤◌, List, [], ◌∷◌, map, length, get_or, sym, refl, ap, ◌∙◌, subst, arith}
-use Rattle.std.proofs.lemmas.List.{get_or-map, get_or_past, length-map}
+use Rattle.std.proofs.Common.{◌≡◌, ℕ, zero, suc, ◌+◌, ◌-◌, ◌*◌, ◌≤◌, List, [], ◌∷◌, map, length, refl, subst, arith}
+use Rattle.std.proofs.lemmas.List.{get_or_past, length-map}
 use Rattle.sharing.specs.Places.{total}
 use Rattle.sharing.specs.Tenths.{ByFraction}
 use Rattle.sharing.proofs.Sums.{upto_le, upto_add, upto_same, upto_times, upto_ones, upto_zero}
@@ -9,9 +9,6 @@ use Rattle.clearing.specs.Calls.{under, at_price, CalledAt}
 use Rattle.clearing.specs.Prices.{curves_at, offered, Least}
 
 module _ {S : Type 0} (power : S → ℕ → ℕ) where
-  pub curve_is : (xs : List S) (i : ℕ) (s : S) → i < length xs → s ≡ get_or xs i s → curves_at power xs i ≡ power s
-  curve_is xs i s l e = get_or-map power xs i s (λ _. 0) l ∙ ap power (sym e)
-
   pub curve_past : (xs : List S) (i : ℕ) → length xs ≤ i → curves_at power xs i ≡ (λ _. 0)
   curve_past xs i l = get_or_past (map power xs) i (λ _. 0) (let e = length-map xs power in omega arith)
 
@@ -52,16 +49,6 @@ module _ (curves : ℕ → ℕ → ℕ) (lawful : (i : ℕ) → Lawful (curves i
         omega arith
 
     module _ (given : ℕ → ℕ) (fair : ByFraction weights rooms given) (adds : total given ≡ brought - total low) where
-      pub call_fits : (i : ℕ) → low i + given i ≤ 20000
-      call_fits i =
-          let w = fair.within i in
-          let r = is_room i in
-          let v = is_low i in
-          let u = under_le (curves i) (lawful i) p least.within in
-          let t = (lawful i).rises p 60 least.within (omega arith) in
-          let m = (lawful i).capped in
-          omega arith
-
       pub called_at : (calls : ℕ → ℕ) → ((i : ℕ) → calls i ≡ low i + given i) → CalledAt weights curves p brought calls
       called_at calls is = record {
         low = λ i. let c = is i in let v = is_low i in omega arith;

@@ -1,5 +1,4 @@
 // What a cleared round answers.
-ghost use Rattle.std.specs.Prelude.{◌≡◌, length};
 
 #[derive(Clone, Copy)]
 pub struct Clearing {
@@ -9,5 +8,4 @@ pub struct Clearing {
     pub price: Option<u8>,
     // The call of each seller by its number, in tenths of a megawatt; 0 past the last.
     pub calls: [u32; 64],
-    ghost places: { length calls ≡ 64 },
 }

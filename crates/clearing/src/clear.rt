@@ -22,8 +22,7 @@ pub fn clear<S: Seller>(sellers: &Row<'_, S>, wanted: u64) -> Clearing
     ensures cheapest { Cheapest (curves S.Seller.power sellers.now) (at_place result.calls) }
     ensures settled { Settled (curves S.Seller.power sellers.now) result.price (at_place result.calls) }
 {
-    let items = sellers.items();
-    let brought = wanted.min(offered(items, 60)) as u32;
+    let brought = wanted.min(offered(sellers, 60)) as u32;
     if brought == 0 {
         return Clearing {
             brought,
@@ -31,7 +30,7 @@ pub fn clear<S: Seller>(sellers: &Row<'_, S>, wanted: u64) -> Clearing
             calls: [0; 64],
         };
     }
-    let price = least_price(items, brought);
+    let price = least_price(sellers, brought);
     Clearing {
         brought,
         price: Some(price),

@@ -1,25 +1,12 @@
 // How far a reading is from the plan, and what a unit pays for that.
 ghost use Rattle.std.specs.Prelude.{◌≡◌, ◌^◌, ◌<◌};
-ghost use Rattle.money.specs.Money.{deviation_of, size_of, penalty_of};
+ghost use Rattle.money.specs.Money.{deviation_of, penalty_of};
 
 // The reading less the planned energy, in kilowatt-hours.
 pub fn deviation(reading: u32, plan: u32) -> i64
     ensures { result ≡ deviation_of reading plan }
 {
     i64::from(reading) - 25 * i64::from(plan)
-}
-
-// The size of the deviation.
-fn size(reading: u32, plan: u32) -> u64
-    ensures { result ≡ size_of reading plan }
-{
-    let read = u64::from(reading);
-    let planned = 25 * u64::from(plan);
-    if read < planned {
-        planned - read
-    } else {
-        read - planned
-    }
 }
 
 // What a unit pays where it was called and twice the size of its deviation exceeds the plan.
@@ -30,8 +17,8 @@ pub fn penalty(called: bool, reading: u32, plan: u32) -> u64
     if !called {
         return 0;
     }
-    let size = size(reading, plan);
     let plan = u64::from(plan);
+    let size = u64::from(reading).abs_diff(25 * plan);
     if plan < 2 * size {
         30 * size - 15 * plan
     } else {

@@ -2,6 +2,7 @@
 ghost use Rattle.std.specs.Prelude.{◌≡◌, ◌+◌, ◌<◌, ◌≤◌, MatchOption};
 ghost use Rattle.money.specs.Money.{producers_of, users_of};
 
+// A type of its own: one bounded number for it and the sellers' powers would lose the unit that the field names.
 #[derive(Clone, Copy)]
 pub struct Share {
     thousandths: u16,

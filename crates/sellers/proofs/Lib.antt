@@ -1,2 +1,3 @@
 -- The lemmas of the sellers.
 pub mod Pinned
+pub mod Found

@@ -1,4 +1,5 @@
 // A seller of either kind, so that one slice holds a round's sellers.
+// An enum, whose methods ask the kind at hand: a `dyn Seller` would hold neither kind without heap, and is not `Copy`.
 ghost use Rattle.sellers.specs.Bidders.{heft_of, power_of};
 ghost use Rattle.std.specs.Prelude.{take};
 ghost use Rattle.sellers.specs.declared.bidder.Bidder.TheVariants.{Thermal, Pooled};

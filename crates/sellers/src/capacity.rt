@@ -1,4 +1,5 @@
 // A seller's capacity: 1 to 2000 megawatts.
+// A type of its own beside `Power`: one bounded number for both would lose the unit that the field names.
 ghost use Rattle.std.specs.Prelude.{◌≡◌, ◌≤◌, MatchOption};
 ghost use Rattle.sellers.specs.Curves.{Weighs};
 

@@ -2,16 +2,17 @@
 ghost use Rattle.std.specs.Prelude.{◌≡◌};
 ghost use Rattle.sellers.specs.Faults.{fault_number};
 
+// Each has the number that a refusal is known by.
 #[derive(Clone, Copy, PartialEq, Eq, Debug)]
 pub enum OfferFault {
     // Not one to eight steps.
-    StepCount,
+    StepCount = 8,
     // A price above what it may be.
-    PriceAboveCap,
+    PriceAboveCap = 9,
     // A price below the one before it.
-    PriceFalls,
+    PriceFalls = 10,
     // A step of no power, or steps that pass the capacity.
-    StepPower,
+    StepPower = 11,
 }
 
 impl OfferFault {
@@ -19,11 +20,6 @@ impl OfferFault {
     pub fn number(self) -> u8
         ensures { result ≡ fault_number self }
     {
-        match self {
-            OfferFault::StepCount => 8,
-            OfferFault::PriceAboveCap => 9,
-            OfferFault::PriceFalls => 10,
-            OfferFault::StepPower => 11,
-        }
+        self as u8
     }
 }

@@ -9,7 +9,6 @@ pub mod pool;
 pub mod power;
 pub mod rest;
 pub mod seller;
-pub mod slot;
 pub mod step;
 pub mod steps;
 pub mod tiers;

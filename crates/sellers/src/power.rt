@@ -1,4 +1,5 @@
 // A power of at most 20,000 tenths of a megawatt.
+// A type of its own beside `Capacity`: one bounded number for both would lose the unit that the field names.
 ghost use Rattle.std.specs.Prelude.{◌≡◌, ◌-◌, ◌<◌, ◌≤◌, MatchOption};
 
 #[derive(Clone, Copy)]

@@ -1,5 +1,5 @@
 // A step of a pool's offer: so many tenths of a megawatt at such a price.
-#[derive(Clone, Copy)]
+#[derive(Clone, Copy, Default)]
 pub struct Step {
     pub price: u8,
     pub power: u16,

@@ -9,6 +9,7 @@ use crate::step::Step;
 
 #[derive(Clone, Copy)]
 pub struct StepOffer {
+    // An array and a count: the offer is copied and takes no heap, and the kit's `ArrayVec` is not `Copy`.
     count: u8,
     // The offer, and after it steps that nothing reads.
     steps: [Step; 8],
@@ -45,11 +46,23 @@ impl StepOffer {
         })
     }
 
+    // The steps of the offer.
+    pub fn listed(&self) -> &[Step]
+        ensures steps { result.now ≡ take self.now.count self.now.steps }
+        ensures few { length result.now ≤ 8 }
+    {
+        &self.steps[..usize::from(self.count)]
+    }
+
     // The power of the steps priced `price` or less.
     pub fn power(&self, price: u8) -> u32
         ensures { result ≡ pool_power (take self.now.count self.now.steps) price }
     {
-        up_to(&self.steps[0..self.count as usize], price)
+        self.listed()
+            .iter()
+            .filter(|step| step.price <= price)
+            .map(|step| u32::from(step.power))
+            .sum()
     }
 
     // How many steps there are.
@@ -72,48 +85,21 @@ impl StepOffer {
 fn within_sixty(steps: &[Step]) -> bool
     ensures { MatchBool result (Priced steps.now) (Priced steps.now → ⊥) }
 {
-    for step in steps {
-        if step.price > 60 {
-            return false;
-        }
-    }
-    true
+    steps.iter().all(|step| step.price <= 60)
 }
 
 // Whether no price is below the one before it.
 fn rising(steps: &[Step]) -> bool
     ensures { MatchBool result (Rising steps.now) (Rising steps.now → ⊥) }
 {
-    for k in 1..steps.len() {
-        if steps[k].price < steps[k - 1].price {
-            return false;
-        }
-    }
-    true
+    steps.is_sorted_by_key(|step| step.price)
 }
 
 // Whether no step is of power 0.
 fn filled(steps: &[Step]) -> bool
     ensures { MatchBool result (Filled steps.now) (Filled steps.now → ⊥) }
 {
-    for step in steps {
-        if step.power == 0 {
-            return false;
-        }
-    }
-    true
-}
-
-// The power of all steps.
-fn total(steps: &[Step]) -> u32
-    requires { length steps.now ≤ 8 }
-    ensures { result ≡ whole steps.now }
-{
-    let mut sum = 0u32;
-    for step in steps {
-        sum += u32::from(step.power);
-    }
-    sum
+    steps.iter().all(|step| step.power > 0)
 }
 
 // Whether the steps are filled, and together within ten times the capacity.
@@ -121,10 +107,8 @@ fn powered(steps: &[Step], capacity: Capacity) -> bool
     requires { length steps.now ≤ 8 }
     ensures { MatchBool result (Powered capacity.megawatts steps.now) (Powered capacity.megawatts steps.now → ⊥) }
 {
-    if !filled(steps) {
-        return false;
-    }
-    total(steps) <= 10 * u32::from(capacity.megawatts())
+    let total: u32 = steps.iter().map(|step| u32::from(step.power)).sum();
+    filled(steps) && total <= 10 * u32::from(capacity.megawatts())
 }
 
 // The steps, with empty ones after them.
@@ -133,22 +117,6 @@ fn eight(steps: &[Step]) -> [Step; 8]
     ensures { take (length steps.now) result ≡ steps.now }
 {
     let mut all = [Step { price: 0, power: 0 }; 8];
-    for k in 0..steps.len() {
-        all[k] = steps[k];
-    }
+    all[..steps.len()].copy_from_slice(steps);
     all
-}
-
-// The power of the steps priced `price` or less.
-fn up_to(steps: &[Step], price: u8) -> u32
-    requires { length steps.now ≤ 8 }
-    ensures { result ≡ pool_power steps.now price }
-{
-    let mut sum = 0u32;
-    for step in steps {
-        if step.price <= price {
-            sum += u32::from(step.power);
-        }
-    }
-    sum
 }

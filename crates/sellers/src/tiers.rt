@@ -36,11 +36,8 @@ impl TierPrices {
         ensures only { (k : ℕ) → Reaches self.now.prices price k → k ≡ result }
         ensures value { result ≡ highest self.now.prices price 7 }
     {
-        let mut k = 7u8;
-        while k > 0 && self.prices[k as usize] > price {
-            k -= 1;
-        }
-        k
+        let reached = self.prices.iter().rposition(|tier| *tier <= price);
+        reached.unwrap_or(0) as u8
     }
 }
 
@@ -48,22 +45,12 @@ impl TierPrices {
 fn within_caps(prices: [u8; 8]) -> bool
     ensures { MatchBool result (Capped prices) (Capped prices → ⊥) }
 {
-    for k in 0..8usize {
-        if prices[k] > CAPS[k] {
-            return false;
-        }
-    }
-    true
+    prices.iter().zip(&CAPS).all(|(price, cap)| price <= cap)
 }
 
 // Whether no price is below the one before it.
 fn in_order(prices: [u8; 8]) -> bool
     ensures { MatchBool result (Ordered prices) (Ordered prices → ⊥) }
 {
-    for k in 0..7usize {
-        if prices[k + 1] < prices[k] {
-            return false;
-        }
-    }
-    true
+    prices.is_sorted()
 }

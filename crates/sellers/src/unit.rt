@@ -54,7 +54,7 @@ impl Seller for Unit {
         ensures reached { (k : ℕ) → Reaches self.now.prices.prices (min price 60) k → result ≡ down_to self.now.capacity.megawatts self.now.floor.tenths self.now.base.tenths k }
     {
         let tier = self.prices.tier(price.min(60));
-        let edge = (7 - tier) as u16 * self.capacity.megawatts();
+        let edge = u16::from(7 - tier) * self.capacity.megawatts();
         let lowest = edge.max(self.floor.tenths());
         u32::from(self.base.tenths().saturating_sub(lowest))
     }

@@ -1,7 +1,7 @@
 -- Tenths handed out to claims by fraction follow the fraction rule. Assumes nothing.
 use Rattle.std.proofs.Common.{◌≡◌, ℕ, zero, suc, ◌+◌, ◌-◌, ◌*◌, ◌<◌, ◌≤◌, Bool, true, false, cond, eqb, ltb, List, is_some, Some, None, Option, sym, refl, ap, ◌∙◌, mul-lt-mul_of_pos_right, arith}
-use Rattle.std.specs.List.{ContainsAt as Has}
-use Rattle.std.proofs.ByRecursion.{all-has}
+use Rattle.std.specs.List.{Contains as Has}
+use Rattle.std.proofs.lemmas.List.Elements.{All-contains}
 use Rattle.std.proofs.lemmas.Bool.{both_ways, cases_lt, cases_eq, cond-true, cond-false, lt-ltb, le-ltb}
 use Rattle.std.proofs.lemmas.Bool.Decides.{nat_tests}
 use Rattle.sharing.specs.Entered.{Roomed}
@@ -37,8 +37,8 @@ first_of_two p q i j h n = grind (arith, nat_tests)
 less_first : (p q i j : ℕ) → p < q → cond (eqb p q) (ltb i j) (ltb p q) ≡ true
 less_first p q i j l = grind (arith, nat_tests)
 
-not_both : (o : Option Fraction) → o ≡ None → is_some o ≡ true → ⊥
-not_both o e f = let z : ◌≡◌ {A = Bool} false true = ap is_some (sym e) ∙ f in both_ways true (sym z) refl
+none_is_some : (o : Option Fraction) → o ≡ None → is_some o ≡ true → ⊥
+none_is_some o e f = let z : ◌≡◌ {A = Bool} false true = ap is_some (sym e) ∙ f in both_ways true (sym z) refl
 
 module _ (weights rooms given : ℕ → ℕ) (n : ℕ) (W : List Fraction) (inside : (i : ℕ) → 0 < weights i → i < n) (heavy : (i : ℕ) → 0 < rooms i → 0 < weights i)
     (roomed : Roomed weights rooms n W) (handed : HandedOut by_fraction (λ c. c.number) next_tenth W given) where
@@ -53,9 +53,9 @@ module _ (weights rooms given : ℕ → ℕ) (n : ℕ) (W : List Fraction) (insi
       let hd = o.2 in
       let rm = o.4 in
       let up = ap given o.5 in
-      absurd (not_both (after next_tenth (rooms i) c) (ends_at (rooms i) c (omega arith) pos) (handed.granted c (rooms i) o.1 (omega arith))))
+      absurd (none_is_some (after next_tenth (rooms i) c) (ends_at (rooms i) c (omega arith) pos) (handed.granted c (rooms i) o.1 (omega arith))))
       (λ h. h))
-      (λ none. let z = handed.others i (λ x hx e. let h = all-has _ W x roomed.roomy hx in let f = ap rooms e in omega arith) in omega arith)
+      (λ none. let z = handed.others i (λ x hx e. let h = All-contains (λ (c : Fraction). 0 < rooms c.number) W x roomed.roomy hx in let f = ap rooms e in omega arith) in omega arith)
 
   pub follows_rule : ByFraction weights rooms given
   follows_rule = record {
@@ -101,7 +101,7 @@ module _ (weights rooms given : ℕ → ℕ) (n : ℕ) (W : List Fraction) (insi
       let rm = o.4 in
       let up = ap given o.5 in
       let s = stands (given o.0.number) o.0 (omega arith) in
-      absurd (not_both _ (out o.0 o.1) (ap is_some s.1)))
+      absurd (none_is_some _ (out o.0 o.1) (ap is_some s.1)))
       (λ h. h)
 
   pub left_is : (rest left : ℕ) → total given + left ≡ rest → (0 < left → Exhausted (λ c. c.number) next_tenth W given) → left ≡ rest - total rooms

@@ -1,9 +1,9 @@
 -- Claims entered party by party. Assumes nothing.
 use Rattle.std.proofs.Common.{◌≡◌, ℕ, ◌+◌, ◌<◌, ◌≤◌, cond, eqb, List, [], ◌∷◌, sym, ap, ◌∙◌, subst, arith}
 use Rattle.std.specs.List.Sorted.{IsPermutation}
-use Rattle.std.proofs.ByRecursion.{All-weaker, has_shuffled, all_shuffled, sum_by_le}
-use Rattle.std.proofs.lemmas.List.Sorted.{sum_by-IsPermutation}
-use Rattle.std.proofs.lemmas.List.Sums.{sum_by-cons}
+use Rattle.std.proofs.lemmas.List.Elements.{All-nil, All-cons, All-weaker}
+use Rattle.std.proofs.lemmas.List.Sorted.{sum_by-IsPermutation, All-permutation, Contains-permutation}
+use Rattle.std.proofs.lemmas.List.Sums.{sum_by-cons, sum_by-le}
 use Rattle.std.proofs.lemmas.Bool.{cases_lt, cases_eq, eq-eqb, ne_eqb, lt-ltb, le-ltb, cond-true, cond-false}
 use Rattle.std.proofs.lemmas.Bool.Decides.{nat_tests}
 use Rattle.sharing.specs.Entered.{Below, Roomed, Rounded}
@@ -16,10 +16,10 @@ use Rattle.sharing.proofs.Sums.{cases}
 
 module _ {C : Type 0} (holder : C → ℕ) where
   below_none : Below holder 0 []
-  below_none = record { apart = λ i. omega arith; inside = tt }
+  below_none = record { apart = λ i. omega arith; inside = All-nil _ }
 
   below_skip : (n : ℕ) (W : List C) → Below holder n W → Below holder (n + 1) W
-  below_skip n W was = record { apart = was.apart; inside = All-weaker _ _ (λ c l. omega arith) W was.inside }
+  below_skip n W was = record { apart = was.apart; inside = All-weaker (λ c. holder c < n) (λ c. holder c < n + 1) (λ c l. omega arith) W was.inside }
 
   abbrev one : ℕ → C → ℕ
   one i c = cond (eqb (holder c) i) 1 0
@@ -35,10 +35,10 @@ module _ {C : Type 0} (holder : C → ℕ) where
         let t = sum_by-cons (one i) c W in
         let a = was.apart i in
         cases (cases_eq n i)
-        (λ e. let absent = sum_by_le (one i) 0 W (All-weaker _ _ (λ x l. not_at (holder x) i (omega arith)) W was.inside) in
+        (λ e. let absent = sum_by-le (one i) 0 W (All-weaker (λ x. holder x < n) (λ x. one i x ≤ 0) (λ x l. not_at (holder x) i (omega arith)) W was.inside) in
         let u : one i c ≡ 1 = cond-true _ 1 0 (eq-eqb (holder c) i (is ∙ e)) in omega arith)
         (λ e. let u : one i c ≡ 0 = cond-false _ 1 0 (ne_eqb (holder c) i (λ f. e (sym is ∙ f))) in omega arith);
-    inside = all_shuffled _ _ _ moved (omega arith, All-weaker _ _ (λ x l. omega arith) W was.inside);
+    inside = All-permutation (λ x. holder x < n + 1) _ _ moved (All-cons (λ x. holder x < n + 1) c W (omega arith) (All-weaker (λ x. holder x < n) (λ x. holder x < n + 1) (λ x l. omega arith) W was.inside));
   }
 
 module _ (weights rooms : ℕ → ℕ) (i : ℕ) where
@@ -56,9 +56,6 @@ module _ (weights rooms : ℕ → ℕ) (i : ℕ) where
       (λ none. cases (cases_lt 0 (rooms i)) (λ l. absurd (omega (arith, heavy l))) (λ z. omega (arith, cond-false _ (rooms i) 0 (le-ltb 0 (weights i) none))))
 
 module _ (weights rooms : ℕ → ℕ) where
-  pub roomed_none : (W : List Fraction) → W ≡ [] → Roomed weights rooms 0 W
-  roomed_none W e = subst (Roomed weights rooms 0) (sym e) record { claims = λ i l. absurd (omega arith); below = below_none _; roomy = tt }
-
   pub roomed_skip : (n : ℕ) (W : List Fraction) → (0 < rooms n → ⊥) → Roomed weights rooms n W → Roomed weights rooms (n + 1) W
   roomed_skip n W none was = record {
     claims = λ i l roomy. cases (cases_eq i n)
@@ -71,10 +68,10 @@ module _ (weights rooms : ℕ → ℕ) where
   pub roomed_more : (n : ℕ) (W W' : List Fraction) (c : Fraction) → 0 < rooms n → c.had ≡ 0 → c.weight ≡ weights n → c.room ≡ rooms n → c.number ≡ n → IsPermutation (c ∷ W) W' → Roomed weights rooms n W → Roomed weights rooms (n + 1) W'
   roomed_more n W W' c pos hd wt rm nm moved was = record {
     claims = λ i l roomy. cases (cases_eq i n)
-        (λ e. (c, has_shuffled _ _ c moved (has_here c W), hd, wt ∙ ap weights (sym e), rm ∙ ap rooms (sym e), nm ∙ sym e))
-        (λ e. let o = was.claims i (omega arith) roomy in (o.0, has_shuffled _ _ o.0 moved (has_there c W o.0 o.1), o.2, o.3, o.4, o.5));
+        (λ e. (c, Contains-permutation _ _ c moved (has_here c W), hd, wt ∙ ap weights (sym e), rm ∙ ap rooms (sym e), nm ∙ sym e))
+        (λ e. let o = was.claims i (omega arith) roomy in (o.0, Contains-permutation _ _ o.0 moved (has_there c W o.0 o.1), o.2, o.3, o.4, o.5));
     below = below_more _ n c W W' nm moved was.below;
-    roomy = all_shuffled _ _ _ moved (subst (λ m. 0 < rooms m) (sym nm) pos, was.roomy);
+    roomy = All-permutation (λ (x : Fraction). 0 < rooms x.number) _ _ moved (All-cons (λ (x : Fraction). 0 < rooms x.number) c W (subst (λ m. 0 < rooms m) (sym nm) pos) was.roomy);
   }
 
 module _ (weights : ℕ → ℕ) (amount : ℕ) where
@@ -94,7 +91,7 @@ module _ (weights : ℕ → ℕ) (amount : ℕ) where
         (λ e. other i e ∙ was.given i (omega arith));
     past = λ i l. other i (omega arith) ∙ was.past i (omega arith);
     claims = λ i l. cases (cases_eq i n)
-        (λ e. (c, has_shuffled _ _ c moved (has_here c W), pt ∙ ap (left_of weights amount) (sym e), nm ∙ sym e))
-        (λ e. let o = was.claims i (omega arith) in (o.0, has_shuffled _ _ o.0 moved (has_there c W o.0 o.1), o.2, o.3));
+        (λ e. (c, Contains-permutation _ _ c moved (has_here c W), pt ∙ ap (left_of weights amount) (sym e), nm ∙ sym e))
+        (λ e. let o = was.claims i (omega arith) in (o.0, Contains-permutation _ _ o.0 moved (has_there c W o.0 o.1), o.2, o.3));
     below = below_more _ n c W W' nm moved was.below;
   }

@@ -53,7 +53,7 @@ module _ {X : Type 0} where
     kept : (k : ℕ) (d : X) → 0 < k → k < left → get_or (take m (set xs 0 head)) k d ≡ get_or (take n xs) k d
     kept k d z l = get_or-take m (set xs 0 head) k d (omega arith) ∙ get_or-set_other xs 0 k head d (omega arith) ∙ sym (get_or-take n xs k d (omega arith))
 
-    pub holed : Queued ahead (take n xs) → IsHeapWithin (behind ahead) (take m (set xs 0 head)) (0 + 1) (length (take m (set xs 0 head)))
+    pub holed : Queued ahead (take n xs) → IsHeapWithin (behind ahead) (take m (set xs 0 head)) 1 (length (take m (set xs 0 head)))
     holed h = λ p k d a b e f.
         let u = length-take m (set xs 0 head) in
         let v = length-set xs 0 head in

@@ -30,23 +30,6 @@ module _ {X : Type 0} (lt : X → X → Bool) where
       ((p k : ℕ) (d : X) → p * 2 + 1 ≤ k → k ≤ p * 2 + 2 → k < end → (k ≡ j → ⊥) → lt (get_or xs p d) (get_or xs k d) ≡ false)
       × ((p k : ℕ) (d : X) → p * 2 + 1 ≤ j → j ≤ p * 2 + 2 → j * 2 + 1 ≤ k → k ≤ j * 2 + 2 → k < end → lt (get_or xs p d) (get_or xs k d) ≡ false)
 
-  pub begins : (xs : List X) (root end : ℕ) → IsHeapWithin lt xs (root + 1) end → Hole xs root root end
-  begins xs root end h = (λ p k d a b e f n. h p k d (omega arith) b e f, λ p k d a b e f g i. absurd (omega arith))
-
-  pub at_leaf : (xs : List X) (low j end : ℕ) → end ≤ j * 2 + 1 → Hole xs low j end → IsHeapWithin lt xs low end
-  at_leaf xs low j end l h = λ p k d a b e f. h.0 p k d a b e f (omega arith)
-
-  pub bulges : (xs : List X) (end : ℕ) → IsHeapWithin lt xs 0 (end - 1) → Bulge xs (end - 1) end
-  bulges xs end h = (λ p k d a b e n. h p k d (omega arith) a b (omega arith), λ p k d a b e f g. absurd (omega arith))
-
-  pub at_top : (xs : List X) (j end : ℕ) → j ≡ 0 → Bulge xs j end → IsHeapWithin lt xs 0 end
-  at_top xs j end z h = λ p k d a b e f. h.0 p k d b e f (omega arith)
-
-  pub settles : (xs : List X) (j end : ℕ) → ((d : X) → lt (get_or xs ((j - 1) / 2) d) (get_or xs j d) ≡ false) → Bulge xs j end → IsHeapWithin lt xs 0 end
-  settles xs j end t h = λ p k d a b e f. cases (cases_eq k j)
-      (λ s. by _ _ _ _ (at xs p ((j - 1) / 2) d (omega arith)) (at xs k j d s) (t d))
-      (λ n. h.0 p k d b e f n)
-
   module _ (o : IsStrictWeakOrder lt) where
     never : (x : X) (b : Bool) → lt x x ≡ b → lt x x ≡ false
     never x true e = o.one_way x x e
@@ -54,20 +37,6 @@ module _ {X : Type 0} (lt : X → X → Bool) where
 
     itself : (xs : List X) (j k : ℕ) (d : X) → k ≡ j → lt (get_or xs j d) (get_or xs k d) ≡ false
     itself xs j k d e = by _ _ _ _ refl (at xs k j d e) (never (get_or xs j d) _ refl)
-
-    pub only_child : (xs : List X) (j c end : ℕ) → c ≡ j * 2 + 1 → c + 1 ≡ end → IsNotBelowChildren lt xs j c end
-    only_child xs j c end e l = λ k d a b f. itself xs c k d (omega arith)
-
-    pub left_child : (xs : List X) (j c end : ℕ) → c ≡ j * 2 + 1 → ((d : X) → lt (get_or xs c d) (get_or xs (c + 1) d) ≡ false) → IsNotBelowChildren lt xs j c end
-    left_child xs j c end e t = λ k d a b f. cases (cases_eq k c) (itself xs c k d) (λ n. by _ _ _ _ refl (at xs k (c + 1) d (omega arith)) (t d))
-
-    pub right_child : (xs : List X) (j c end : ℕ) → c ≡ j * 2 + 1 → ((d : X) → lt (get_or xs c d) (get_or xs (c + 1) d) ≡ true) → IsNotBelowChildren lt xs j (c + 1) end
-    right_child xs j c end e t = λ k d a b f. cases (cases_eq k (c + 1)) (itself xs (c + 1) k d) (λ n. by _ _ _ _ refl (at xs k c d (omega arith)) (o.one_way _ _ (t d)))
-
-    pub rests : (xs : List X) (low j c end : ℕ) → ((d : X) → lt (get_or xs j d) (get_or xs c d) ≡ false) → IsNotBelowChildren lt xs j c end → Hole xs low j end → IsHeapWithin lt xs low end
-    rests xs low j c end t g h = λ p k d a b e f. cases (cases_eq p j)
-        (λ s. by _ _ _ _ (at xs p j d s) refl (o.chain _ _ _ (t d) (g k d (omega arith) (omega arith) f)))
-        (λ n. h.0 p k d a b e f n)
 
     module _ (xs ys : List X) (low j c end : ℕ) (lo : low ≤ j) (from : j * 2 + 1 ≤ c) (to : c ≤ j * 2 + 2) (in' : c < end) (is : Exchanges xs ys j c) where
       first : (m : ℕ) (d : X) → m ≡ j → get_or ys m d ≡ get_or xs c d

@@ -1,6 +1,8 @@
 pub mod Sums
+pub mod Made
 pub mod Heaps
 pub mod Fronts
+pub mod InOrder
 pub mod Serving
 pub mod Entering
 pub mod ByTenths

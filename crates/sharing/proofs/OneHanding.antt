@@ -1,14 +1,10 @@
 -- Tenths are handed out by the fraction rule in just one way. Assumes nothing.
-use Rattle.std.proofs.Common.{◌≡◌, ℕ, ◌+◌, ◌<◌, true, refl, arith}
-use Rattle.std.proofs.lemmas.Bool.Decides.{nat_tests}
+use Rattle.std.proofs.Common.{◌≡◌, ℕ, ◌+◌, ◌<◌, refl, arith}
+use Rattle.std.proofs.lemmas.Bool.{both_ways}
+use Rattle.sharing.specs.Fractions.{one_way}
 use Rattle.sharing.specs.Places.{total}
-use Rattle.sharing.specs.Order.{least_first}
 use Rattle.sharing.specs.Tenths.{ByFraction}
 use Rattle.sharing.proofs.Sums.{only_one}
-
--- of two claims only one comes first
-not_both : (a u i b v j : ℕ) → least_first a u i b v j ≡ true → least_first b v j a u i ≡ true → ⊥
-not_both a u i b v j h k = grind (arith, nat_tests)
 
 -- Two handings of one total among parties with equal weights and rooms are the same.
 pub alike_handing : (weights weights' rooms rooms' given given' : ℕ → ℕ) →
@@ -18,7 +14,7 @@ alike_handing weights weights' rooms rooms' given given' weigh fit one two sums 
     (λ a b la lb more less.
     let there = one.order a b (given a) (given b + 1) (omega arith) (omega arith) (omega arith) (omega (arith, two.within b, fit b lb)) in
     let back = two.order b a (given b + 1) (given a) (omega arith) (omega arith) more (omega (arith, one.within a, fit a la)) in
-    not_both (given a) (weights a) a (given b + 1) (weights b) b there (rw (weigh a la, weigh b lb) back))
+    both_ways _ (one_way (given a) (weights a) a (given b + 1) (weights b) b there) (rw (weigh a la, weigh b lb) back))
 
 pub one_handing : (weights rooms given given' : ℕ → ℕ) → ByFraction weights rooms given → ByFraction weights rooms given' →
     total given ≡ total given' → (i : ℕ) → i < 64 → given i ≡ given' i

@@ -1,7 +1,8 @@
 -- The arithmetic of a share-out: parts rounded down, and the odd ones handed out by remainder. Assumes nothing.
 use Rattle.std.proofs.Common.{◌≡◌, ℕ, zero, suc, ◌+◌, ◌-◌, ◌*◌, ◌/◌, ◌%◌, ◌<◌, ◌≤◌, true, false, List, None, sym, refl, ap, ◌∙◌, subst, inl, inr, mod-lt, mul_comm, mul-le-mul_left, mul-zero, mul-add, arith}
 use native.Mathlib.Nat.{div-add-mod, le_of_mul-le-mul_left, zero-div}
-use Rattle.std.proofs.ByRecursion.{all-has}
+use Rattle.std.proofs.lemmas.List.Elements.{All-contains}
+use Rattle.std.proofs.lemmas.Option.{none-some}
 use Rattle.std.proofs.lemmas.Bool.{cases_lt}
 use Rattle.std.proofs.lemmas.Bool.Decides.{nat_tests}
 use Rattle.sharing.specs.Entered.{Rounded}
@@ -58,11 +59,13 @@ module _ (w : ℕ → ℕ) (a t : ℕ) (pos : 0 < t) where
       let z = mul-add t (upto part n) n in
       absurd (omega arith))
 
+-- Each order has its own: this one puts the greater number first, `least_first` the lesser.
 pub first_of_two : (a i b j : ℕ) → most_first b j a i ≡ false → (i ≡ j → ⊥) → most_first a i b j ≡ true
 first_of_two a i b j h n = grind (arith, nat_tests)
 
-before_none : (a i j : ℕ) → i < j → most_first a i 0 j ≡ true
-before_none a i j l = grind (arith, nat_tests)
+-- what the rounding leaves comes before nothing left, further on
+pub before_none : (a i b j : ℕ) → b ≡ 0 → i < j → most_first a i b j ≡ true
+before_none a i b j e l = grind (arith, nat_tests)
 
 behind_some : (b i j : ℕ) → most_first 0 i b j ≡ true → b ≡ 0
 behind_some b i j h = grind (arith, nat_tests)
@@ -93,7 +96,7 @@ module _ (weights : ℕ → ℕ) (amount : ℕ) where
       (handed : HandedOut by_remainder (λ c. c.number) (λ _. None) W odd)
       (adds : total odd + left ≡ over) (exhausted : 0 < left → Exhausted (λ c. c.number) (λ _. None) W odd) where
     none_past : (i : ℕ) → n ≤ i → odd i ≡ 0
-    none_past i l = handed.others i (λ x hx e. let h = all-has _ W x rounded.below.inside hx in omega arith)
+    none_past i l = handed.others i (λ x hx e. let h = All-contains (λ (c : Remainder). c.number < n) W x rounded.below.inside hx in omega arith)
 
     at_most : (i : ℕ) → i < n → odd i ≤ 1
     at_most i l = cases (cases_lt 1 (odd i))
@@ -116,7 +119,7 @@ module _ (weights : ℕ → ℕ) (amount : ℕ) where
         (λ h. omega arith)
       where
         at_least : (m : ℕ) (c : Remainder) → after (λ _. None) m c ≡ None → 1 ≤ m
-        at_least zero c e = absurd (let z : ◌≡◌ {A = ℕ} 0 1 = cc in omega arith)
+        at_least zero c e = absurd (none-some c (sym e))
         at_least (suc m) c e = omega arith
 
         each : (i : ℕ) → i < n → 0 < left → 1 ≤ odd i
@@ -156,7 +159,7 @@ module _ (weights : ℕ → ℕ) (amount : ℕ) where
             let xp = x.2 in let xn = x.3 in let yp = y.2 in let yn = y.3 in
             let k : most_first (left_of weights amount j) j (left_of weights amount i) i ≡ false = sym (λ m. most_first (yp m) (yn m) (xp m) (xn m)) ∙ h in
             first_of_two (left_of weights amount i) i (left_of weights amount j) j k (λ e. let u = ap shares e in let v = ap (part_of weights amount) e in omega arith))
-            (λ lj. subst (λ b. most_first (left_of weights amount i) i b j ≡ true) (sym (left_none j pos (past j lj))) (before_none (left_of weights amount i) i j (omega arith))))
+            (λ lj. before_none (left_of weights amount i) i (left_of weights amount j) j (left_none j pos (past j lj)) (omega arith)))
             (λ li. let z = nothing i li in absurd (let u = z.0 in let v = z.1 in omega arith));
       }
 

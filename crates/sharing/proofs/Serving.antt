@@ -2,32 +2,29 @@
 use Rattle.std.proofs.Common.{◌≡◌, ℕ, zero, suc, ◌+◌, ◌<◌, ◌≤◌, Bool, true, false, cond, eqb, ◌⊎◌, List, [], ◌∷◌, ◌++◌, get_or, is_some, Some, None, sum_by, Option, sym, refl, ap, ◌∙◌, subst, inl, inr, arith}
 use Rattle.std.specs.Cmp.{IsStrictWeakOrder}
 use Rattle.std.specs.Option.{option_to_list}
-use Rattle.std.specs.List.{ContainsAt as Has}
+use Rattle.std.specs.List.{Contains as Has}
 use Rattle.std.proofs.lemmas.List.Sums.{sum_by-cons, get_or-le-sum_by}
-use Rattle.std.proofs.ByRecursion.{has_shuffled}
-use Rattle.std.proofs.lemmas.List.Sorted.{sum_by-IsPermutation, IsPermutation-sym}
+use Rattle.std.proofs.lemmas.List.Sorted.{sum_by-IsPermutation, IsPermutation-sym, Contains-permutation}
 use Rattle.std.proofs.lemmas.Bool.{cases_eq, eq-eqb, cases_lt, cond-true}
+use Rattle.std.proofs.lemmas.Option.{none-some, same_Some}
 use Rattle.sharing.specs.Order.{First}
-use Rattle.sharing.specs.Handed.{then, after, Apart, HandedOut, WaitsOn, Exhausted}
+use Rattle.sharing.specs.Handed.{then, after, Apart, HandedOut, WaitsOn}
 use Rattle.sharing.specs.Waiting.{Serves}
 use Rattle.sharing.proofs.Sums.{cases}
 
 module _ {C : Type 0} where
   pub has_here : (c : C) (xs : List C) → Has (c ∷ xs) c
-  has_here c xs = (0, omega arith, λ d. refl)
+  has_here c xs = (0, omega arith, refl)
 
   pub has_there : (c : C) (xs : List C) (x : C) → Has xs x → Has (c ∷ xs) x
   has_there c xs x (k, l, e) = (suc k, omega arith, e)
 
   pub has_cases : (c : C) (xs : List C) (x : C) → Has (c ∷ xs) x → (c ≡ x) ⊎ Has xs x
-  has_cases c xs x (zero, l, e) = inl (e c)
+  has_cases c xs x (zero, l, e) = inl e
   has_cases c xs x (suc k, l, e) = inr (k, omega arith, e)
 
   pub has_none : (x : C) → Has [] x → ⊥
   has_none x (k, l, e) = omega arith
-
-  some_is : (x y : C) → ◌≡◌ {A = Option C} (Some x) (Some y) → x ≡ y
-  some_is x y e = cc
 
 module _ {C : Type 0} (ahead : C → C → Bool) (holder : C → ℕ) (next : C → Option C) (ranks : IsStrictWeakOrder ahead) (later : (x y : C) → next x ≡ Some y → (ahead y x ≡ false) × (holder y ≡ holder x)) where
   abbrev of : ℕ → C → Bool
@@ -42,7 +39,7 @@ module _ {C : Type 0} (ahead : C → C → Bool) (holder : C → ℕ) (next : C 
   none_else : (i : ℕ) (c : C) (xs : List C) (y : C) → sum_by (one i) (c ∷ xs) ≤ 1 → holder c ≡ i → Has xs y → holder y ≡ i → ⊥
   none_else i c xs y l e (k, in', at) f =
       let a : one i c ≡ 1 = one_is i c e in
-      let b : one i (get_or xs k y) ≡ 1 = one_is i (get_or xs k y) (ap holder (at y) ∙ f) in
+      let b : one i (get_or xs k y) ≡ 1 = one_is i (get_or xs k y) (ap holder at ∙ f) in
       let s : sum_by (one i) (c ∷ xs) ≡ one i c + sum_by (one i) xs = sum_by-cons (one i) c xs in
       let g : one i (get_or xs k y) ≤ sum_by (one i) xs = get_or-le-sum_by (one i) xs k y in' in
       omega arith
@@ -56,11 +53,11 @@ module _ {C : Type 0} (ahead : C → C → Bool) (holder : C → ℕ) (next : C 
       (λ q. same_one xs (λ i. let s = sum_by-cons (one i) c xs in let g = h i in omega arith) x y p q e))
 
   by_then : (o : Option C) (d : C) → then o next ≡ Some d → (e : C) × (o ≡ Some e) × (next e ≡ Some d)
-  by_then None d h = absurd (let z : ◌≡◌ {A = ℕ} 0 1 = cc in omega arith)
+  by_then None d h = absurd (none-some d h)
   by_then (Some e) d h = (e, refl, h)
 
   pub after_holder : (j : ℕ) (x y : C) → after next j x ≡ Some y → holder y ≡ holder x
-  after_holder zero x y h = ap holder (sym (some_is x y h))
+  after_holder zero x y h = ap holder (sym (same_Some x y h))
   after_holder (suc j) x y h = let s = by_then (after next j x) y h in (later s.0 y s.2).1 ∙ after_holder j x s.0 s.1
 
   never : (x : C) (b : Bool) → ahead x x ≡ b → ahead x x ≡ false
@@ -88,7 +85,7 @@ module _ {C : Type 0} (ahead : C → C → Bool) (holder : C → ℕ) (next : C 
   starts H m z h = record {
     apart = h;
     origin = λ x c hx hc e. ap (λ i. after next i x) (z (holder c)) ∙ ap Some (same_one H h x c hx hc e);
-    waits = λ x c hx e. subst (Has H) (some_is x c (ap (λ i. after next i x) (sym (z (holder x))) ∙ e)) hx;
+    waits = λ x c hx e. subst (Has H) (same_Some x c (ap (λ i. after next i x) (sym (z (holder x))) ∙ e)) hx;
     granted = λ x j hx l. absurd (omega (arith, z (holder x)));
     held = λ c hc. (c, hc, refl);
     others = λ i n. z i;
@@ -97,10 +94,10 @@ module _ {C : Type 0} (ahead : C → C → Bool) (holder : C → ℕ) (next : C 
 
   module _ (H : List C) (m m' : ℕ → ℕ) (W W' : List C) (c : C) (s : Serves next c W W') (first : First ahead c W) (up : m' (holder c) ≡ suc (m (holder c))) (still : (k : ℕ) → (k ≡ holder c → ⊥) → m' k ≡ m k) (was : Serving H m W) where
     in_W : Has W c
-    in_W = has_shuffled _ _ c (IsPermutation-sym _ _ s.out) (has_here c s.rest)
+    in_W = Contains-permutation _ _ c (IsPermutation-sym _ _ s.out) (has_here c s.rest)
 
     rest_W : (y : C) → Has s.rest y → Has W y
-    rest_W y h = has_shuffled _ _ y (IsPermutation-sym _ _ s.out) (has_there c s.rest y h)
+    rest_W y h = Contains-permutation _ _ y (IsPermutation-sym _ _ s.out) (has_there c s.rest y h)
 
     one_W : (i : ℕ) → sum_by (one i) (c ∷ s.rest) ≤ 1
     one_W i = let e = sum_by-IsPermutation (one i) _ _ s.out in let l = was.apart i in omega arith
@@ -113,16 +110,16 @@ module _ {C : Type 0} (ahead : C → C → Bool) (holder : C → ℕ) (next : C 
     split (Some x) y h = cases (has_cases x s.rest y h) (λ e. inl (ap Some e)) inr
 
     in_W' : (y : C) → Has W' y → (next c ≡ Some y) ⊎ Has s.rest y
-    in_W' y h = split (next c) y (has_shuffled _ _ y (IsPermutation-sym _ _ s.back) h)
+    in_W' y h = split (next c) y (Contains-permutation _ _ y (IsPermutation-sym _ _ s.back) h)
 
     put : (o : Option C) (y : C) → (o ≡ Some y) ⊎ Has s.rest y → Has (option_to_list o ++ s.rest) y
-    put None y (inl e) = absurd (let z : ◌≡◌ {A = ℕ} 0 1 = cc in omega arith)
+    put None y (inl e) = absurd (none-some y e)
     put None y (inr h) = h
-    put (Some x) y (inl e) = subst (Has (x ∷ s.rest)) (some_is x y e) (has_here x s.rest)
+    put (Some x) y (inl e) = subst (Has (x ∷ s.rest)) (same_Some x y e) (has_here x s.rest)
     put (Some x) y (inr h) = has_there x s.rest y h
 
     to_W' : (y : C) → (next c ≡ Some y) ⊎ Has s.rest y → Has W' y
-    to_W' y h = has_shuffled _ _ y s.back (put (next c) y h)
+    to_W' y h = Contains-permutation _ _ y s.back (put (next c) y h)
 
     fewer : (o : Option C) (i : ℕ) → next c ≡ o → sum_by (one i) (option_to_list o ++ s.rest) ≤ sum_by (one i) (c ∷ s.rest)
     fewer None i e = let t = sum_by-cons (one i) c s.rest in omega arith
@@ -155,7 +152,7 @@ module _ {C : Type 0} (ahead : C → C → Bool) (holder : C → ℕ) (next : C 
       waits = λ x y hx e. cases (cases_eq (holder x) (holder c))
           (λ p. to_W' y (inl (sym (next_of x hx p) ∙ e)))
           (λ p. let f : after next (m (holder x)) x ≡ Some y = ap (λ i. after next i x) (sym (still (holder x) p)) ∙ e in
-          let h = has_shuffled _ _ y s.out (was.waits x y hx f) in
+          let h = Contains-permutation _ _ y s.out (was.waits x y hx f) in
           cases (has_cases c s.rest y h)
           (λ q. absurd (p (sym (after_holder (m (holder x)) x y f) ∙ ap holder (sym q))))
           (λ q. to_W' y (inr q)));
@@ -171,12 +168,12 @@ module _ {C : Type 0} (ahead : C → C → Bool) (holder : C → ℕ) (next : C 
           (λ p. cases (in_W' y hy)
           (λ q. ranks.chain y c g (later c y q).0 (was.before x g c j hx p e in_W))
           (λ q. was.before x g y j hx p e (rest_W y q)))
-          (λ p. let same : c ≡ g = some_is c g (sym (was_c x hx p.0) ∙ ap (λ i. after next i x) (sym p.1) ∙ e) in
+          (λ p. let same : c ≡ g = same_Some c g (sym (was_c x hx p.0) ∙ ap (λ i. after next i x) (sym p.1) ∙ e) in
           subst (λ z. ahead y z ≡ false) same (cases (in_W' y hy) (λ q. (later c y q).0) (λ q. first_at y (rest_W y q))));
     }
       where
         first_at : (y : C) → Has W y → ahead y c ≡ false
-        first_at y (k, l, e) = ap (λ z. ahead z c) (sym (e y)) ∙ first k y l
+        first_at y (k, l, e) = ap (λ z. ahead z c) (sym e) ∙ first k y l
 
   pub ends : (H : List C) (m : ℕ → ℕ) (W : List C) → Serving H m W → HandedOut ahead holder next H m
   ends H m W was = record {
@@ -193,10 +190,3 @@ module _ {C : Type 0} (ahead : C → C → Bool) (holder : C → ℕ) (next : C 
     from = λ c hc. let o = was.held c hc in (o.0, o.1, ap (λ i. after next (m i) o.0) o.2 ∙ was.origin o.0 c o.1 hc o.2);
     apart = was.apart;
   }
-
-  pub all_served : (H : List C) (m : ℕ → ℕ) (W : List C) → W ≡ [] → Serving H m W → Exhausted holder next H m
-  all_served H m W e was = λ x hx. by_last (after next (m (holder x)) x) (λ c f. has_none c (subst (λ l. Has l c) e (was.waits x c hx f)))
-    where
-      by_last : (o : Option C) → ((c : C) → o ≡ Some c → ⊥) → o ≡ None
-      by_last None h = refl
-      by_last (Some c) h = absurd (h c refl)

@@ -1,6 +1,7 @@
 -- Sums over places. Assumes nothing.
-use Rattle.std.proofs.Common.{◌≡◌, ℕ, zero, suc, ◌+◌, ◌*◌, ◌<◌, ◌≤◌, ◌⊎◌, List, map, length, get_or, set, replicate, sym, refl, ap, ◌∙◌, inl, inr, mul-add, arith}
-use Rattle.std.proofs.lemmas.List.{get_or-map, get_or_past, get_or-set_same, get_or-set_other, length-map}
+use Rattle.std.proofs.Common.{◌≡◌, ℕ, zero, suc, ◌+◌, ◌*◌, ◌<◌, ◌≤◌, ◌⊎◌, List, [], ◌∷◌, map, sum, sum_by, length, get_or, set, replicate, sym, refl, ap, ◌∙◌, inl, inr, mul-add, arith}
+use Rattle.std.proofs.lemmas.List.{get_or-map, get_or_past, get_or-set_same, get_or-set_other, length-map, map-id}
+use Rattle.std.proofs.lemmas.List.Sums.{sum_by-cons}
 use Rattle.std.proofs.lemmas.Bool.{cases_lt, cases_eq}
 use Rattle.sharing.specs.Places.{upto, at_place, by_place}
 
@@ -63,12 +64,15 @@ upto_at f (suc n) i l = cases (cases_eq i n)
     (λ e. omega (arith, upto_at f n i (omega arith)))
 
 -- past the last one that counts nothing is added
-pub upto_past : (f : ℕ → ℕ) (m n : ℕ) → m ≤ n → ((i : ℕ) → m ≤ i → f i ≡ 0) → upto f n ≡ upto f m
+pub upto_between : (f : ℕ → ℕ) (m n : ℕ) → m ≤ n → ((i : ℕ) → m ≤ i → i < n → f i ≡ 0) → upto f n ≡ upto f m
 unfolding upto
-upto_past f m zero l h = let e : m ≡ 0 = omega arith in ap (upto f) (sym e)
-upto_past f m (suc n) l h = cases (cases_eq m (suc n))
+upto_between f m zero l h = let e : m ≡ 0 = omega arith in ap (upto f) (sym e)
+upto_between f m (suc n) l h = cases (cases_eq m (suc n))
     (λ e. ap (upto f) (sym e))
-    (λ e. omega (arith, upto_past f m n (omega arith) h, h n (omega arith)))
+    (λ e. omega (arith, upto_between f m n (omega arith) (λ i a b. h i a (omega arith)), h n (omega arith) (omega arith)))
+
+pub upto_past : (f : ℕ → ℕ) (m n : ℕ) → m ≤ n → ((i : ℕ) → m ≤ i → f i ≡ 0) → upto f n ≡ upto f m
+upto_past f m n l h = upto_between f m n l (λ i a _. h i a)
 
 -- a sum with one term that counts
 pub upto_single : (f : ℕ → ℕ) (n j : ℕ) → j < n → ((i : ℕ) → i < n → (i ≡ j → ⊥) → f i ≡ 0) → upto f n ≡ f j
@@ -118,19 +122,45 @@ only_one f g n e no_two i l = cases (cases_lt (f i) (g i))
     (λ more. absurd (let o = elsewhere_less g f n i (sym e) l more in no_two i o.0 l o.1 more o.2))
     (λ not_more. omega arith))
 
--- an array of zeros
+-- an array of one value, at any place
+pub alike_at : {X : Type 0} (P : X → Type 0) (n : ℕ) (x d : X) → P x → P d → (i : ℕ) → P (get_or (replicate n x) i d)
+alike_at P zero x d here past i = past
+alike_at P (suc n) x d here past zero = here
+alike_at P (suc n) x d here past (suc i) = alike_at P n x d here past i
+
 pub zeros : (n i : ℕ) → at_place (replicate n 0) i ≡ 0
-zeros zero i = refl
-zeros (suc n) zero = refl
-zeros (suc n) (suc i) = zeros n i
+zeros n = alike_at (λ v. v ≡ 0) n 0 0 refl refl
 
 module _ {X : Type 0} (f : X → ℕ) where
   -- what stands at a place
   pub by_place_is : (xs : List X) (i : ℕ) (x : X) → i < length xs → x ≡ get_or xs i x → by_place f xs i ≡ f x
   by_place_is xs i x l e = get_or-map f xs i x 0 l ∙ ap f (sym e)
 
+  pub by_place_in : (xs ys : List X) (i : ℕ) (x : X) → ys ≡ xs → i < length ys → x ≡ get_or ys i x → by_place f xs i ≡ f x
+  by_place_in xs ys i x same l e = ap (λ zs. by_place f zs i) (sym same) ∙ by_place_is ys i x l e
+
   pub by_place_past : (xs : List X) (i : ℕ) → length xs ≤ i → by_place f xs i ≡ 0
   by_place_past xs i l = get_or_past (map f xs) i 0 (let e = length-map xs f in omega arith)
+
+-- the first place apart
+upto_first : (f : ℕ → ℕ) (n : ℕ) → upto f (suc n) ≡ f 0 + upto (λ i. f (suc i)) n
+unfolding upto
+upto_first f zero = omega arith
+upto_first f (suc n) = omega (arith, upto_first f n)
+
+-- the sum of a figure over a list, and of a list of numbers, is its sum over the places
+pub sum_placed : {X : Type 0} (f : X → ℕ) (xs : List X) (n : ℕ) → length xs ≤ n → sum_by f xs ≡ upto (by_place f xs) n
+sum_placed f [] n few = sym (upto_zero (by_place f []) n (λ i l. refl))
+sum_placed f (x ∷ xs) zero few = absurd (omega arith)
+sum_placed f (x ∷ xs) (suc n) few =
+    let rest = sum_placed f xs n (omega arith) in
+    omega (arith, sum_by-cons f x xs, upto_first (by_place f (x ∷ xs)) n, rest)
+
+pub itself : (xs : List ℕ) → by_place (λ x. x) xs ≡ at_place xs
+itself xs = ap at_place (map-id xs)
+
+pub sum_places : (xs : List ℕ) (n : ℕ) → length xs ≤ n → sum xs ≡ upto (at_place xs) n
+sum_places xs n few = sum_placed (λ x. x) xs n few ∙ ap (λ f. upto f n) (itself xs)
 
 -- writing at one place
 pub upto_set : (xs : List ℕ) (i v n : ℕ) → i < length xs → i < n → upto (at_place (set xs i v)) n + at_place xs i ≡ upto (at_place xs) n + v

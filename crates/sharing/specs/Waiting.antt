@@ -6,15 +6,15 @@ use Rattle.sharing.specs.Order.{Queued}
 use Rattle.sharing.specs.declared.list.WaitingList.{WaitingList}
 
 -- The claims that wait.
-abbrev pub waiting : {C : Type 0} → WaitingList C → List C
+abbrev pub waiting : {C : Type 0} {g : _} → WaitingList C g → List C
 waiting w = take w.len w.claims.now
 
 -- How many claims the list has room for.
-abbrev pub room : {C : Type 0} → WaitingList C → ℕ
+abbrev pub room : {C : Type 0} {g : _} → WaitingList C g → ℕ
 room w = length w.claims.now
 
--- The list is in order: what waits fits the lent slice, and stands as a heap. Every list made by `new` is, and stays so.
-pub record Orderly {C : Type 0} (ahead : C → C → Bool) (w : WaitingList C) : Type 0 where
+-- The list is in order: what waits fits the lent slice, and stands as a heap. Every list is, by its type.
+pub record Orderly {C : Type 0} {g : _} (ahead : C → C → Bool) (w : WaitingList C g) : Type 0 where
   pub fits : w.len ≤ length w.claims.now
   pub queued : Queued ahead (waiting w)
 

@@ -12,6 +12,7 @@ pub trait Claim: Copy {
     // The claim that waits on once this one is served.
     ghost next: { Self → Maybe Self };
 
+    // No `Ord`: two fractions of one party may be level and still differ, so an order could not agree with `==`.
     fn before(&self, other: &Self) -> bool
         ensures { result ≡ ahead self.now other.now };
 

@@ -2,33 +2,32 @@
 ghost use Rattle.std.specs.Prelude.{◌≡◌, ◌+◌, ◌<◌};
 ghost use Rattle.sharing.specs.Handed.{HandedOut, WaitsOn, Exhausted, Apart};
 ghost use Rattle.sharing.specs.Places.{total, at_place};
-ghost use Rattle.sharing.specs.Waiting.{waiting, room, Orderly};
+ghost use Rattle.sharing.specs.Waiting.{waiting, room};
 
 use super::claim::Claim;
-use super::handed::Handed;
 use super::list::WaitingList;
+use super::shares::Shares;
 
-// Gives `units` out to the claims that wait, no two of one holder, and says how many found no claim.
-pub fn hand_out<C: Claim>(list: &mut WaitingList<'_, C>, units: u64) -> Handed
-    ensures adds { total (at_place result.given) + result.left ≡ units }
-    ensures handed { Orderly C.ahead list.old → Apart C.holder (waiting list.old) → HandedOut C.ahead C.holder C.next (waiting list.old) (at_place result.given) }
-    ensures waits { Orderly C.ahead list.old → Apart C.holder (waiting list.old) → WaitsOn C.holder C.next (waiting list.old) (at_place result.given) (waiting list.new) }
-    ensures exhausted { Orderly C.ahead list.old → Apart C.holder (waiting list.old) → 0 < result.left → Exhausted C.holder C.next (waiting list.old) (at_place result.given) }
+// Gives `units` out to the claims that wait, no two of one holder; what finds no claim, nobody carries.
+pub fn hand_out<C: Claim>(list: &mut WaitingList<'_, C>, units: u64) -> Shares
+    ensures adds { total (at_place result.parts) + result.uncarried ≡ units }
+    ensures handed { Apart C.holder (waiting list.old) → HandedOut C.ahead C.holder C.next (waiting list.old) (at_place result.parts) }
+    ensures waits { Apart C.holder (waiting list.old) → WaitsOn C.holder C.next (waiting list.old) (at_place result.parts) (waiting list.new) }
+    ensures exhausted { Apart C.holder (waiting list.old) → 0 < result.uncarried → Exhausted C.holder C.next (waiting list.old) (at_place result.parts) }
     ensures room { room list.new ≡ room list.old }
-    ensures orderly { Orderly C.ahead list.old → Orderly C.ahead list.new }
 {
-    let mut given = [0u64; 64];
+    let mut parts = [0u64; 64];
     for k in 0..units {
-        match list.serve() {
-            None => return Handed {
-                given,
-                left: units - k,
-            },
-            Some(claim) => {
-                let i = claim.number();
-                given[i] += 1;
-            }
-        }
+        let Some(claim) = list.serve() else {
+            return Shares {
+                parts,
+                uncarried: units - k,
+            };
+        };
+        parts[claim.number()] += 1;
     }
-    Handed { given, left: 0 }
+    Shares {
+        parts,
+        uncarried: 0,
+    }
 }

@@ -24,11 +24,7 @@ impl Claim for Remainder {
     ghost numbered = { Prim.search rules };
 
     fn before(&self, other: &Remainder) -> bool {
-        if self.part == other.part {
-            self.number < other.number
-        } else {
-            other.part < self.part
-        }
+        (other.part, self.number) < (self.part, other.number)
     }
 
     fn number(&self) -> usize {
@@ -59,13 +55,9 @@ impl Claim for Fraction {
     ghost numbered = { Prim.search rules };
 
     fn before(&self, other: &Fraction) -> bool {
-        let mine = (self.had as u64 + 1) * other.weight as u64;
-        let theirs = (other.had as u64 + 1) * self.weight as u64;
-        if mine == theirs {
-            self.number < other.number
-        } else {
-            mine < theirs
-        }
+        let mine = (u64::from(self.had) + 1) * u64::from(other.weight);
+        let theirs = (u64::from(other.had) + 1) * u64::from(self.weight);
+        (mine, self.number) < (theirs, other.number)
     }
 
     fn number(&self) -> usize {
@@ -73,15 +65,9 @@ impl Claim for Fraction {
     }
 
     fn renewed(&self) -> Option<Fraction> {
-        if (self.had as u64) + 1 < self.room as u64 {
-            Some(Fraction {
-                had: self.had + 1,
-                weight: self.weight,
-                room: self.room,
-                number: self.number,
-            })
-        } else {
-            None
-        }
+        // A copy that is changed: `..*self` is refused beside a ghost field.
+        let mut follower = *self;
+        follower.had = self.had.saturating_add(1);
+        (follower.had < self.room).then_some(follower)
     }
 }

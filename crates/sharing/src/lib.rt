@@ -5,7 +5,6 @@
 pub mod claim;
 pub mod fraction;
 pub mod hand;
-pub mod handed;
 pub mod kinds;
 pub mod list;
 pub mod party;

@@ -1,53 +1,59 @@
 // A waiting list: a binary heap over a lent slice of claims, for every kind of claim.
-ghost use Rattle.std.specs.Prelude.{◌≡◌, ◌<◌, ◌≤◌, true, false, [], ◌∷◌, length, MatchOption};
+ghost use Rattle.std.specs.Prelude.{◌≡◌, ◌<◌, ◌≤◌, [], ◌∷◌, length, take, MatchOption, MatchResult};
 ghost use Rattle.std.specs.List.Sorted.{IsPermutation};
-ghost use Rattle.sharing.specs.Order.{First};
-ghost use Rattle.sharing.specs.Waiting.{waiting, room, Orderly, Serves};
+ghost use Rattle.sharing.specs.Order.{First, Queued};
 
 use super::claim::Claim;
 use super::sift::{rise, sink};
 
+// There is no room for one more claim.
+#[derive(Clone, Copy, PartialEq, Eq, Debug)]
+pub struct NoRoom;
+
+// A slice and how much of it is in use: the list takes no memory of its own, so the caller lends all that it may need.
 #[derive(Drop)]
-pub struct WaitingList<'a, C> {
+pub struct WaitingList<'a, C: Claim> {
     claims: &'a mut [C],
     len: usize,
+    // What waits fits the lent slice.
+    ghost fits: { len ≤ length claims.now },
+    // What waits stands as a heap.
+    ghost queued: { Queued C.ahead (take len claims.now) },
 }
 
 impl<'a, C: Claim> WaitingList<'a, C> {
+    ghost use Rattle.sharing.specs.Waiting.{waiting, room, Serves};
+
     // An empty list, with room for as many claims as the slice has.
     pub fn new(claims: &'a mut [C]) -> WaitingList<'a, C>
-        ensures orderly { Orderly C.ahead result }
         ensures empty { waiting result ≡ [] }
         ensures room { room result ≡ length claims.old }
     {
         WaitingList { claims, len: 0 }
     }
 
-    // Lets one more claim wait; false, and the list as it was, where there is no room.
-    pub fn enter(&mut self, claim: C) -> bool
+    // Lets one more claim wait; where there is no room the list stays as it was.
+    pub fn enter(&mut self, claim: C) -> Result<(), NoRoom>
         ensures room { room self.new ≡ room self.old }
-        ensures full { room self.old ≤ length (waiting self.old) → (result ≡ false) × (waiting self.new ≡ waiting self.old) }
-        ensures entered { length (waiting self.old) < room self.old → (result ≡ true) × IsPermutation (claim ∷ waiting self.old) (waiting self.new) }
-        ensures orderly { Orderly C.ahead self.old → Orderly C.ahead self.new }
+        ensures entered { MatchResult result (λ _. (length (waiting self.old) < room self.old) × IsPermutation (claim ∷ waiting self.old) (waiting self.new)) (λ _. (room self.old ≤ length (waiting self.old)) × (waiting self.new ≡ waiting self.old)) }
     {
         let n = self.len;
-        if n >= self.claims.len() {
-            return false;
+        if n == self.claims.len() {
+            return Err(NoRoom);
         }
         self.claims[n] = claim;
+        rise(&mut self.claims[..n + 1]);
         self.len = n + 1;
-        rise(&mut self.claims[0..n + 1]);
-        true
+        Ok(())
     }
 
     // Serves the first claim: the one that follows it, if any, takes its place and sinks to its own.
     pub fn serve(&mut self) -> Option<C>
         ensures room { room self.new ≡ room self.old }
-        ensures items { Orderly C.ahead self.old → MatchOption result ((waiting self.old ≡ []) × (waiting self.new ≡ [])) (λ c. First C.ahead c (waiting self.old) × Serves C.next c (waiting self.old) (waiting self.new)) }
-        ensures orderly { Orderly C.ahead self.old → Orderly C.ahead self.new }
+        ensures items { MatchOption result ((waiting self.old ≡ []) × (waiting self.new ≡ [])) (λ c. First C.ahead c (waiting self.old) × Serves C.next c (waiting self.old) (waiting self.new)) }
     {
         let n = self.len;
-        if n == 0 || n > self.claims.len() {
+        if n == 0 {
             return None;
         }
         let first = self.claims[0];
@@ -55,9 +61,11 @@ impl<'a, C: Claim> WaitingList<'a, C> {
             Some(follower) => (follower, n),
             None => (self.claims[n - 1], n - 1),
         };
+        // Until the new head has sunk, nothing counts as waiting.
+        self.len = 0;
         self.claims[0] = head;
+        sink(&mut self.claims[..left]);
         self.len = left;
-        sink(&mut self.claims[0..left], 0);
         Some(first)
     }
 }

@@ -1,4 +1,5 @@
 // A party: anything that has a weight.
+ghost use Rattle.std.specs.Option.{option_map_or};
 ghost use Rattle.std.specs.Prelude.{◌≡◌, ℕ};
 
 pub trait Party {
@@ -7,4 +8,13 @@ pub trait Party {
 
     fn weight(&self) -> u32
         ensures { result ≡ heft self.now };
+}
+
+// A place that may stand empty: the party's own weight, and 1 where nobody stands, the least that there is.
+impl<P: Party> Party for Option<P> {
+    ghost heft = { λ place. option_map_or P.Party.heft place 1 };
+
+    fn weight(&self) -> u32 {
+        self.as_ref().map_or(1, |party| party.weight())
+    }
 }

@@ -1,7 +1,7 @@
 -- Tests of a case, which compute on numerals: a case that passes them holds. Assumes nothing.
 use Rattle.std.proofs.Common.{◌≡◌, ℕ, zero, suc, ◌+◌, ◌-◌, ◌*◌, ◌/◌, ◌%◌, ◌<◌, ◌≤◌, min, Bool, true, cond, ◌&&◌, ◌||◌, eqb, ltb, leb, List, [], ◌∷◌, map, length, Some, None, Option, sym, refl, ap, ◌∙◌, inl, inr, mul-le-mul_right, mul-zero, arith}
 use native.Mathlib.Nat.{zero-div, zero-mod}
-use Rattle.std.specs.List.{AllByRecursion}
+use Rattle.std.specs.List.{AllByRecursion, list_all}
 use Rattle.std.proofs.lemmas.List.{get_or_past, length-map}
 use Rattle.std.proofs.lemmas.Bool.{and_parts, or_cases, cases_lt, cases_eq, cases_Bool, cond-true, cond-false, lt-ltb, eq-eqb, and_from, leb-true, ltb-true, eqb-true}
 use Rattle.std.proofs.lemmas.Bool.Decides.{nat_tests}
@@ -9,6 +9,7 @@ use Rattle.sharing.specs.Order.{least_first, most_first}
 use Rattle.sharing.specs.Places.{upto, total, at_place, by_place}
 use Rattle.sharing.specs.Shares.{part_of, left_of}
 use Rattle.sharing.specs.Tenths.{ByFraction}
+use Rattle.sharing.proofs.Rounding.{before_none}
 use Rattle.sharing.proofs.Sums.{cases, upto_past}
 use Rattle.clearing.specs.Calls.{under, at_price, Priced}
 use Rattle.clearing.specs.Prices.{curves_at, offered}
@@ -28,8 +29,7 @@ each_below passes (suc n) i e l =
 
 -- All of these pass.
 abbrev all_pass : List Bool → Bool
-all_pass [] = true
-all_pass (b ∷ bs) = b && all_pass bs
+all_pass = list_all (λ b. b)
 
 each_passes : (bs : List Bool) → all_pass bs ≡ true → AllByRecursion (λ b. b ≡ true) bs
 each_passes [] e = tt
@@ -42,10 +42,6 @@ past_end xs n i e l = let short = leb-true _ _ e in get_or_past xs i 0 (omega ar
 -- The fraction rule owes the most where one has had its last tenth and the other has its next to come.
 later_first : (p q p' q' i j : ℕ) → p' ≤ p → q ≤ q' → cond (eqb p q) (ltb i j) (ltb p q) ≡ true → cond (eqb p' q') (ltb i j) (ltb p' q') ≡ true
 later_first p q p' q' i j low high first = grind (arith, nat_tests)
-
--- What the rounding leaves comes before nothing left, further on.
-before_none : (a i b j : ℕ) → b ≡ 0 → i < j → cond (eqb a b) (ltb i j) (ltb b a) ≡ true
-before_none a i b j e l = grind (arith, nat_tests)
 
 -- The tests of the fraction rule over the first n places.
 module _ (weights rooms given : ℕ → ℕ) where

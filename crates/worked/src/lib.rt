@@ -6,11 +6,9 @@ ghost use Rattle.std.specs.List.{AllByRecursion};
 ghost use Rattle.worked.specs.Cases.{Holds, worked};
 
 // Every worked case holds.
-pub fn worked_cases() -> u8
+pub fn worked_cases()
     ensures { AllByRecursion Holds worked }
-{
-    0
-}
+{}
 
 #[cfg(test)]
 mod runs;

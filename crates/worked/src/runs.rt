@@ -29,9 +29,7 @@ fn unit(capacity: u16, floor: u16, base: u16) -> Option<Unit> {
     let capacity = Capacity::new(capacity)?;
     let floor = Power::new(floor)?;
     let base = Power::new(base)?;
-    let Ok(prices) = TierPrices::new([0, 10, 10, 20, 30, 30, 30, 30]) else {
-        return None;
-    };
+    let prices = TierPrices::new([0, 10, 10, 20, 30, 30, 30, 30]).ok()?;
     Some(Unit::new(capacity, floor, base, prices))
 }
 
@@ -75,7 +73,7 @@ fn given(rest: u64) -> Option<(u64, u64, u64)> {
     let units = two_units()?;
     let row = Row::new(&units)?;
     let handed = share_tenths(&row, &rooms, rest);
-    Some((handed.given[0], handed.given[1], handed.left))
+    Some((handed.parts[0], handed.parts[1], handed.uncarried))
 }
 
 #[test]

@@ -1,39 +1,20 @@
-use Rattle.std.proofs.Common.{◌≡◌, ◌<◌, min, length, sym, refl, ap, ◌∙◌, subst, arith, length-set, below_more}
-use Rattle.std.proofs.lemmas.List.{get_or-set_same, get_or-set_other}
-use Rattle.std.proofs.lemmas.Bool.{cases_lt}
-use Rattle.sharing.proofs.Sums.{cases, zeros, by_place_is}
+use Rattle.std.proofs.Common.{◌<◌, min, length, ap, arith, rules}
 use Rattle.sellers.specs.Curves.{Weighs}
-use Rattle.clearing.proofs.Standing.{curve_is, curve_past}
+use Rattle.sharing.specs.Rows.{weights}
+use Rattle.clearing.specs.Prices.{curves}
+use Rattle.sharing.proofs.Made.{filled, reads_as}
+use Rattle.clearing.proofs.Standing.{curve_past}
 use Rattle.clearing.proofs.powers.powers.Goals as goal
 
-pub loop-i-init : goal.loop-i-init
-loop-i-init g c = (refl, λ k l. absurd (omega arith), λ k l. zeros 64 k, λ k l. absurd (omega arith))
+pub returns-clause-each : goal.returns-clause-each
+returns-clause-each g c =
+    let power = g.S.Seller.power in
+    let row = c.args.sellers.now in
+    let q = min c.args.price 60 in
+    reads_as _ _ (λ i. curves power row i q) (λ i y q call. search rules) _ 64 c.from_fn.ensures.items
+    (λ i past. ap (λ f. f q) (curve_past power row.items.now i (omega arith)))
 
-pub loop-i-preserved : goal.loop-i-preserved
-loop-i-preserved g c =
-    let l = c.loop-i in
-    let inv = l.invariant in
-    let ss = c.args.sellers.now in
-    let s = c.index-sellers-i.result in
-    let in' : l.i < length l.all = let n = inv.0 in omega arith in
-    let here = curve_is g.S.Seller.power ss l.i s c.loop-i-test.true c.index-sellers-i.is in
-    let weighs = by_place_is g.S.Party.heft ss l.i s c.loop-i-test.true c.index-sellers-i.is in (
-      length-set l.all l.i _ ∙ inv.0,
-      below_more _ _
-          (λ k h. get_or-set_other l.all l.i k _ 0 (omega arith) ∙ inv.1 k h)
-          (get_or-set_same l.all l.i _ 0 in' ∙ c.curve.ensures.value ∙ ap (λ f. f (min c.args.price 60)) (sym here)),
-      λ k h. get_or-set_other l.all l.i k _ 0 (omega arith) ∙ inv.2 k (omega arith),
-      below_more _ _ inv.3 (subst Weighs (sym weighs) c.curve.ensures.vouches),
-    )
-
-pub returns : goal.returns
-returns g c =
-    let l = c.loop-i in
-    let inv = l.invariant in
-    let ss = c.args.sellers.now in
-    let end : l.i ≡ length ss = omega arith in
-    record {
-      places = inv.0;
-      each = λ i. cases (cases_lt i l.i) (inv.1 i) (λ past. inv.2 i past ∙ ap (λ f. f (min c.args.price 60)) (sym (curve_past g.S.Seller.power ss i (omega arith))));
-      weighs = λ i h. inv.3 i (omega arith);
-    }
+pub returns-clause-weighs : goal.returns-clause-weighs
+returns-clause-weighs g c =
+    let row = c.args.sellers.now in
+    λ i l. filled _ _ (λ i y. i < length row.items.now → Weighs (weights g.S.Party.heft row i)) (λ i y q call. search rules) _ 64 c.from_fn.ensures.items i 0 (omega arith) l

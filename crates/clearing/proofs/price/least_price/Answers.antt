@@ -1,19 +1,20 @@
-use Rattle.std.proofs.Common.{◌≡◌, ◌+◌, ◌/◌, ◌<◌, min, ap, arith}
-use Rattle.clearing.specs.Prices.{curves_at, offered}
+use Rattle.std.proofs.Common.{◌≡◌, min, ltb, rules}
+use Rattle.std.proofs.lemmas.List.Sorted.{IsPartitionPoint-from_clause}
+use borrow.Author.Tests.{tests}
+use Rattle.clearing.specs.Prices.{curves, offered}
+use Rattle.sharing.proofs.Made.{filled}
+use Rattle.clearing.proofs.Halved.{parted, least_parted}
 use Rattle.clearing.proofs.Standing.{lawful_at, offered_rises}
 use Rattle.clearing.proofs.price.least_price.Goals as goal
 
-pub loop-low-preserved-then-offered-from : goal.loop-low-preserved-then-offered-from
-loop-low-preserved-then-offered-from g c =
-    let fs = curves_at g.S.Seller.power c.args.sellers.now in
-    let l = c.loop-low in
-    let inv = l.invariant in
-    let m = (l.low + l.high) / 2 in
-    let high = inv.1 in
-    let within : min m 60 ≡ m = omega arith in
-    let here : offered fs m < c.args.brought = let e = ap (offered fs) within in omega arith in (
-      omega arith,
-      inv.1,
-      inv.2,
-      λ q h. omega (arith, offered_rises fs (lawful_at g.S.Seller.power g.met.S.Seller.lawful c.args.sellers.now) q m (omega arith) (omega arith)),
-    )
+pub returns : goal.returns
+returns g c =
+    let power = g.S.Seller.power in
+    let row = c.args.sellers.now in
+    let offer = offered (curves power row) in
+    let prices = c.from_fn-prices.result in
+    let is = filled _ _ (λ i y. y ≡ i) (λ i y q call. search rules) prices 61 c.from_fn-prices.ensures.items in
+    let rises = offered_rises (curves power row) (lawful_at power g.met.S.Seller.lawful row.items.now) in
+    let point = IsPartitionPoint-from_clause (λ q. ltb (offer (min q 60)) c.args.brought) prices c.partition_point.result c.partition_point.ensures.partitioned
+    (parted offer c.args.brought prices (search rules) is rises) (λ a r f' call. search (rules, tests)) in
+    least_parted offer c.args.brought prices (search rules) is c.partition_point.result c.requires c.partition_point.ensures.bound point

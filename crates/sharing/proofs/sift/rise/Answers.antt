@@ -2,16 +2,8 @@ use Rattle.std.proofs.Common.{sym, ◌∙◌, arith}
 use Rattle.std.proofs.lemmas.List.MinMax.{IsStrictWeakOrder-flip}
 use Rattle.std.proofs.lemmas.List.Sorted.{IsPermutation-trans}
 use Rattle.sharing.specs.Order.{behind}
-use Rattle.sharing.proofs.Heaps.{settles, rises}
+use Rattle.sharing.proofs.Heaps.{rises}
 use Rattle.sharing.proofs.sift.rise.Goals as goal
-
-pub returns-then-not-before_at : goal.returns-then-not-before_at
-returns-then-not-before_at g c =
-    let l = c.loop-j in
-    record {
-      shuffled = l.invariant.1;
-      heap = λ h p k d a b e f. settles (behind g.C.Claim.ahead) l.s l.j _ (λ d. sym (c.before_at.ensures d) ∙ c.if-not-before_at.true) (l.invariant.2 h) p k d a b e (omega arith);
-    }
 
 pub loop-j-preserved : goal.loop-j-preserved
 loop-j-preserved g c =

@@ -1,48 +1,44 @@
-use Rattle.std.proofs.Common.{◌≡◌, ◌+◌, ◌<◌, ◌≤◌, length, sym, refl, ap, ◌∙◌, subst, arith}
+use Rattle.std.proofs.Common.{◌≡◌, ◌+◌, ◌<◌, ◌≤◌, length, sym, refl, ◌∙◌, subst, arith}
 use Rattle.std.proofs.lemmas.List.Sorted.{length_permutation}
+use Rattle.std.proofs.lemmas.Result.{MatchResult-at_ok}
 use Rattle.sharing.specs.Entered.{Roomed}
-use Rattle.sharing.specs.Kinds.{by_fraction}
-use Rattle.sharing.specs.Places.{at_place, by_place}
+use Rattle.sharing.specs.Places.{at_place}
+use Rattle.sharing.specs.Rows.{weights}
 use Rattle.sharing.specs.Tenths.{takes}
-use Rattle.sharing.specs.Waiting.{waiting, room, Orderly}
+use Rattle.sharing.specs.Waiting.{waiting, room}
 use Rattle.sharing.specs.declared.fraction.Fraction.{Fraction}
 use Rattle.sharing.specs.declared.list.WaitingList.{WaitingList}
-use Rattle.sharing.proofs.Entering.{takes_room, takes_some, roomed_none, roomed_skip, roomed_more}
-use Rattle.sharing.proofs.Sums.{cases, by_place_is}
+use Rattle.sharing.proofs.Entering.{takes_room, takes_some, roomed_skip, roomed_more}
+use Rattle.sharing.proofs.Sums.{cases, by_place_in}
 use Rattle.sharing.proofs.tenths.enter_rooms.Goals as goal
-use Rattle.sharing.proofs.tenths.enter_rooms.Goals.{then-weight-gt0+then-here-gt0, else-weight-gt0}
-
-pub loop-i-init : goal.loop-i-init
-loop-i-init g c = (c.requires.orderly, roomed_none _ _ _ c.requires.empty, omega (arith, ap length c.requires.empty), c.requires.room)
+use Rattle.sharing.proofs.tenths.enter_rooms.Goals.{then-weight-gt0+then-room-gt0, else-weight-gt0}
 
 pub loop-i-preserved : goal.loop-i-preserved
 loop-i-preserved g c =
-    let ps = c.args.parties.now in
-    let rooms = c.args.rooms.now in
     let heft = g.P.Party.heft in
+    let row = c.args.parties.now in
+    let w = weights heft row in
+    let rooms = at_place c.args.rooms.now in
     let i = c.loop-i.i in
     let inv = c.loop-i.invariant in
-    let at = by_place_is heft ps i c.index-parties-i.result c.loop-i-test.true c.index-parties-i.is in
-    let Goal : WaitingList Fraction → Type 0 = λ w. Orderly by_fraction w × Roomed (by_place heft ps) (takes (by_place heft ps) (at_place rooms)) (i + 1) (waiting w) × (length (waiting w) ≤ i + 1) × (room w ≡ 64) in
+    let items = c.items-party-items in
+    let at = by_place_in heft row.items.now items.result.now i c.party-item.result items.ensures.same c.loop-i-test.true c.party-item.is in
+    let Goal : WaitingList Fraction _ → Type 0 = λ l. Roomed w (takes w rooms) (i + 1) (waiting l) × (length (waiting l) ≤ i + 1) × (room l ≡ 64) in
     elim c.if-weight-gt0.branch [
-      | then-weight-gt0+then-here-gt0 w ↦
-          let e = w.enter.ensures in
-          let short : length (waiting c.loop-i.list) < room c.loop-i.list = let l = inv.2 in let r = inv.3 in let few = c.requires.few in omega arith in
-          let moved = (e.entered short).1 in
+      | then-weight-gt0+then-room-gt0 b ↦
+          let moved = (MatchResult-at_ok _ _ _ b.unwrap.ensures b.enter.ensures.entered).1 in
           let s = length_permutation _ _ moved in
-          let some : 0 < by_place heft ps i = let h = w.if-weight-gt0.true in let v = c.weight-weight.ensures in omega (arith, at) in
-          let all = takes_room (by_place heft ps) (at_place rooms) i some in
-          subst Goal (sym w.list-is) (
-            e.orderly inv.0,
-            roomed_more _ _ i _ _ _ (let h = w.if-here-gt0.true in omega arith) refl (c.weight-weight.ensures ∙ sym at) (sym all) refl moved inv.1,
-            (let l = inv.2 in omega arith),
-            e.room ∙ inv.3,
+          let some : 0 < w i = let h = b.if-weight-gt0.true in let v = c.weight-weight.ensures in omega (arith, at) in
+          let all = takes_room w rooms i some in
+          subst Goal (sym b.list-is) (
+            roomed_more _ _ i _ _ _ (let h = b.if-room-gt0.true in omega arith) refl (c.weight-weight.ensures ∙ sym at) (sym all) refl moved inv.0,
+            (let l = inv.1 in omega arith),
+            b.enter.ensures.room ∙ inv.2,
           )
-      | else-weight-gt0 w ↦
-          subst Goal (sym w.list-is) (
-            inv.0,
-            roomed_skip _ _ i _ (λ takes. let both = takes_some (by_place heft ps) (at_place rooms) i takes in let heavy = both.0 in let roomy = both.1 in let v = c.weight-weight.ensures in cases w.else-weight-gt0.either (λ h. let z = h.1 in omega arith) (λ h. omega (arith, at))) inv.1,
-            (let l = inv.2 in omega arith),
-            inv.3,
+      | else-weight-gt0 b ↦
+          subst Goal (sym b.list-is) (
+            roomed_skip _ _ i _ (λ takes. let both = takes_some w rooms i takes in let heavy = both.0 in let roomy = both.1 in let v = c.weight-weight.ensures in cases b.else-weight-gt0.either (λ h. let z = h.1 in omega arith) (λ h. omega (arith, at))) inv.0,
+            (let l = inv.1 in omega arith),
+            inv.2,
           )
     ]

@@ -1,13 +1,33 @@
-use Rattle.std.proofs.Common.{◌≡◌, ◌+◌, ◌-◌, ◌<◌, ◌≤◌, ◌⊎◌, [], length, get_or, Some, None, sym, ap, ◌∙◌, inl, inr, arith, rules}
+use Rattle.std.proofs.Common.{◌≡◌, ◌+◌, ◌-◌, ◌<◌, ◌≤◌, ◌⊎◌, [], length, get_or, set, drop, Some, None, sym, refl, ap, ◌∙◌, inl, inr, arith}
 use Rattle.std.proofs.lemmas.List.MinMax.{IsStrictWeakOrder-flip}
-use Rattle.std.proofs.lemmas.List.{get_or_default}
+use Rattle.std.proofs.lemmas.List.{get_or_default, length-append}
 use Rattle.sharing.proofs.Fronts as fronts
 use Rattle.sharing.proofs.Sums.{cases}
 use Rattle.sharing.proofs.list.WaitingList.serve.Goals as goal
 use Rattle.sharing.proofs.list.WaitingList.serve.Goals.{in-Some, in-None}
 
-pub returns : goal.returns
-returns g c =
+pub invariant_of-self-3 : goal.invariant_of-self-3
+invariant_of-self-3 g c =
+    let xs = c.args.self.now.claims.now in
+    let n = c.args.self.now.len in
+    let x = get_or xs 0 c.index-self-0.result in
+    let head = c.match-renewed.head.0 in
+    let left = c.match-renewed.head.1 in
+    let few : left ≤ n = elim c.match-renewed.branch [
+      | in-Some w ↦ omega (arith, ap (λ t. t.1) w.head-is)
+      | in-None w ↦ omega (arith, ap (λ t. t.1) w.head-is)
+    ] in
+    let at : x ≡ get_or xs 0 x = get_or_default xs 0 _ _ (omega arith) in
+    let ys = c.sink.new.s in
+    let moved = c.sink.ensures.shuffled in
+    let ahead = g.C.Claim.ahead in
+    record {
+      fits = omega (arith, length-append ys (drop left (set xs 0 head)), fronts.long_left ahead xs ys [] n left _ x head (omega arith) (omega arith) few refl at moved);
+      queued = fronts.closed ahead xs ys _ n left _ x head (omega arith) (omega arith) few refl at moved (c.sink.ensures.heap (fronts.holed ahead xs ys [] n left _ x head (omega arith) (omega arith) few refl at moved c.args.self.now.queued));
+    }
+
+pub returns-clause-items : goal.returns-clause-items
+returns-clause-items g c =
     let xs = c.args.self.now.claims.now in
     let n = c.args.self.now.len in
     let ahead = g.C.Claim.ahead in
@@ -26,20 +46,11 @@ returns g c =
     let few : left ≤ n = cases way (λ w. let e = w.0 in omega arith) (λ w. let e = w.0 in omega arith) in
     let some : 0 < n = omega arith in
     let fits : n ≤ length xs = omega arith in
-    let whole : left - 0 ≡ left = omega arith in
     let at : x ≡ get_or xs 0 x = get_or_default xs 0 _ _ (omega arith) in
     let ys = c.sink.new.s in
-    let moved = c.sink.ensures.shuffled in
-    record {
-      room = search rules;
-      items = λ was. (
-        fronts.foremost ahead xs ys [] n left _ x head fits some few whole at moved (IsStrictWeakOrder-flip ahead g.met.C.Claim.ranks) was.queued,
-        cases way
-            (λ w. fronts.follows ahead xs ys _ n left _ x head fits some few whole at moved next w.0 w.1)
-            (λ w. fronts.leaves ahead xs ys _ n left _ x head fits some few whole at moved next w.0 w.1 w.2),
-      );
-      orderly = λ was. record {
-        fits = search rules;
-        queued = fronts.closed ahead xs ys _ n left _ x head fits some few whole at moved (c.sink.ensures.heap (fronts.holed ahead xs ys [] n left _ x head fits some few whole at moved was.queued));
-      };
-    }
+    let moved = c.sink.ensures.shuffled in (
+      fronts.foremost ahead xs ys [] n left _ x head fits some few refl at moved (IsStrictWeakOrder-flip ahead g.met.C.Claim.ranks) c.args.self.now.queued,
+      cases way
+          (λ w. fronts.follows ahead xs ys _ n left _ x head fits some few refl at moved next w.0 w.1)
+          (λ w. fronts.leaves ahead xs ys _ n left _ x head fits some few refl at moved next w.0 w.1 w.2),
+    )

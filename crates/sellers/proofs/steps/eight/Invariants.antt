@@ -1,6 +1,0 @@
--- The steps so far are copied.
-use Rattle.std.proofs.Common.{◌≡◌, length, take}
-use Rattle.sellers.proofs.steps.eight.Given as goal
-
-abbrev pub invariant-loop-k : goal.invariant-loop-k
-invariant-loop-k l = (length l.all ≡ 8) × (take l.k l.all ≡ take l.k l.steps)

@@ -1,0 +1,10 @@
+use Rattle.std.proofs.Common.{◌≡◌, ◌≤◌, rules, arith}
+use Rattle.std.proofs.lemmas.Iterator.{cases_from_all, YieldsList-from_slice}
+use borrow.Author.Tests.{tests}
+use Rattle.sellers.proofs.Found.{decided}
+use Rattle.sellers.proofs.steps.filled.Goals as goal
+
+pub returns : goal.returns
+returns c =
+    decided (λ s. 1 ≤ s.power) (λ s. s.power ≡ 0) (λ s yes no. omega arith) _ _
+    (cases_from_all _ _ _ (λ s. 1 ≤ s.power) (λ s. s.power ≡ 0) c.all.ensures.ran (YieldsList-from_slice c.args.steps.now cc) (λ x q k. search (rules, tests)) (λ x q k. search (rules, tests)))
