@@ -13,7 +13,7 @@ use Rattle.day.specs.declared.book.Cleared.{Cleared}
 use Rattle.day.specs.declared.book.Period.{Period}
 use Rattle.day.specs.declared.book.Round.{Round}
 use Rattle.day.specs.declared.faults.Fault.{Fault}
-use Rattle.day.specs.Calls.{Answer, Answered, Checked, first_hit, Early, Late, plan, want, clear, read_unit, read_plant}
+use Rattle.day.specs.Calls.{Passed, Answer, Answered, Checked, first_hit, Early, Late, plan, want, clear, read_unit, read_plant}
 use Rattle.day.specs.History.{accepted, enrolment, latest_want, latest_plan, latest_unit_read, latest_plant_read, was_cleared, curve_given}
 use Rattle.day.specs.Reading.{no_round, blank_round, blank, round_at, want_at, plan_at, unit_read, plant_read, cleared_at, call_in, received_in, brought_in, price_in, with_round, with_unit_read, with_plant_read, with_want, with_plan, with_cleared}
 use Rattle.day.specs.Rounds.{Stands}
@@ -21,10 +21,6 @@ use Rattle.day.specs.Terms.{capacity_of}
 use Rattle.day.proofs.Writes.{write, part_kept, part_write, write2, each_same}
 
 -- a call that is not refused passed each of its checks
-abbrev pub Passed : List (Bool × Fault) → Type 0
-Passed [] = Unit {0}
-Passed (c ∷ cs) = (c.0 ≡ false) × Passed cs
-
 passed_one : (β : Bool) (e : Fault) (cs : List (Bool × Fault)) → (first_hit cs ≡ None → Passed cs) → cond β (Some e) (first_hit cs) ≡ None → (β ≡ false) × Passed cs
 passed_one true e cs more h = let z : ◌≡◌ {A = ℕ} 0 1 = cc in absurd (omega arith)
 passed_one false e cs more h = (refl, more h)
@@ -165,6 +161,7 @@ module _ (es : List Early) (ls : List Late) (q : Period) (was : Agrees es ls q) 
       }
 
 -- past the last place that counts nothing is added
+-- as upto_past of the sums, which asks of every place past m: the shares are known for the 64 places alone
 upto_between : (f : ℕ → ℕ) (m n : ℕ) → m ≤ n → ((i : ℕ) → m ≤ i → i < n → f i ≡ 0) → upto f n ≡ upto f m
 unfolding upto
 upto_between f m zero l h = let e : m ≡ 0 = omega arith in ap (upto f) (sym e)

@@ -11,10 +11,9 @@ use Rattle.day.specs.History.{accepted, on}
 use Rattle.day.specs.Law.{Rounds, Latest, EveryDay}
 use Rattle.day.specs.Reading.{no_period, period_at, cleared_at, call_in, received_in, brought_in, price_in}
 use Rattle.day.specs.Runs.{Running}
-use Rattle.day.specs.Sound.{AtMost}
 use Rattle.day.proofs.Agree.{ClearedAfter, Matched, none_matched}
 use Rattle.day.proofs.Days.{late}
-use Rattle.day.proofs.Soundness.{sound, units_low}
+use Rattle.day.proofs.Soundness.{AtMost, sound, units_low}
 
 -- the clearing in the list is one in the list of its period
 

@@ -7,7 +7,7 @@ pub mod Keeping
 pub mod Reach
 pub mod OneProof
 pub mod Balances
-pub mod Passing
+pub mod Accepted
 pub mod Blank
 pub mod InRows
 pub mod Units
@@ -15,3 +15,4 @@ pub mod Totalled
 pub mod OneRound
 pub mod OneBill
 pub mod OneDay
+pub mod Chained

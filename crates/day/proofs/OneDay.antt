@@ -15,11 +15,10 @@ use Rattle.day.specs.History.{on}
 use Rattle.day.specs.Only.{asked, SameDay, OnlyDay}
 use Rattle.day.specs.Reading.{no_period, seller_at, plant_at, period_at, want_at, plan_at, unit_read, plant_read, cleared_at}
 use Rattle.day.specs.Runs.{Opening, opens, then_early, Running, starts, then_late}
-use Rattle.day.specs.Sound.{AtMost}
 use Rattle.day.specs.Terms.{capacity_of}
 use Rattle.day.proofs.Days.{DayAgrees, late}
 use Rattle.day.proofs.OneRound.{SameRound, one_round}
-use Rattle.day.proofs.Soundness.{sound}
+use Rattle.day.proofs.Soundness.{AtMost, sound}
 
 -- what is answered where so much is found wrong
 

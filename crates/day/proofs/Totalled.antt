@@ -1,13 +1,12 @@
 -- The sums of a reached day balance. Assumes nothing.
-use Rattle.std.proofs.Common.{◌≡◌, ◌+◌, sym}
+use Rattle.std.proofs.Common.{◌≡◌, ◌+◌, sym, arith}
 use mathlib.Core.Logic.{∥∥₁_elim}
 use native.Mathlib.Nat.{ℕ_set}
-use Rattle.sharing.proofs.Sums.{upto_add}
+use Rattle.sharing.specs.Places.{upto, total}
+use Rattle.sharing.proofs.Sums.{upto_add, upto_same}
 use Rattle.day.specs.declared.book.Book.{Book}
-use Rattle.day.specs.declared.figures.Figure.TheVariants.{PlantCharges, AreaCharges, UnitRefunds, AreaRefunds}
 use Rattle.day.specs.Balance.{Balanced}
-use Rattle.day.specs.Bills.{charges, refunds}
-use Rattle.day.specs.Figures.{in_period, in_day}
+use Rattle.day.specs.Bills.{plant_charge, users, uncarried_charge, charges, refund, uncarried_refund, refunds}
 use Rattle.day.specs.Reached.{Ran}
 use Rattle.day.proofs.Balances.{balanced}
 use Rattle.day.proofs.Law.{even}
@@ -19,8 +18,10 @@ ran_balanced {b} h = (
 )
 
 -- charges are those of plants and those of areas, and so are refunds
-pub charges_are : (b : Book) → in_day PlantCharges b + in_day AreaCharges b ≡ charges b
-charges_are b = sym (upto_add (in_period PlantCharges b) (in_period AreaCharges b) 96)
+pub charges_are : (b : Book) → upto (λ p. total (plant_charge b p)) 96 + upto (λ p. upto (users b p) 8) 96 + upto (λ p. upto (uncarried_charge b p) 8) 96 ≡ charges b
+charges_are b =
+    let areas = upto_same _ _ 96 (λ p l. upto_add (users b p) (uncarried_charge b p) 8) in
+    omega (arith, areas, upto_add (λ p. upto (users b p) 8) (λ p. upto (uncarried_charge b p) 8) 96, upto_add (λ p. total (plant_charge b p)) (λ p. upto (λ a. users b p a + uncarried_charge b p a) 8) 96)
 
-pub refunds_are : (b : Book) → in_day UnitRefunds b + in_day AreaRefunds b ≡ refunds b
-refunds_are b = sym (upto_add (in_period UnitRefunds b) (in_period AreaRefunds b) 96)
+pub refunds_are : (b : Book) → upto (λ p. total (refund b p)) 96 + upto (λ p. upto (uncarried_refund b p) 8) 96 ≡ refunds b
+refunds_are b = sym (upto_add (λ p. total (refund b p)) (λ p. upto (uncarried_refund b p) 8) 96)

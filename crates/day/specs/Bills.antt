@@ -4,6 +4,7 @@ use Rattle.sharing.specs.Places.{upto, total}
 use Rattle.sharing.specs.Shares.{share_of}
 use Rattle.money.specs.Money.{fee_of, producers_of, users_of, deviation_of, penalty_of}
 use Rattle.day.specs.declared.book.Book.{Book}
+use Rattle.day.specs.declared.book.Period.{Period}
 use Rattle.day.specs.Terms.{Enrolment, nobody, unit, pool, is_unit, or_else, base_from}
 use Rattle.day.specs.Reading.{seller_at, plant_at, period_at, want_at, plan_at, unit_read, plant_read, cleared_at, call_in, received_in, brought_in, price_in}
 
@@ -62,11 +63,17 @@ abbrev pub uncarried_charge : Book → ℕ → ℕ → ℕ
 uncarried_charge b p a = cond (total (net b p a) == 0) (producers b p a) 0
 
 -- A unit's plan: its intraday base less its intraday call; and its reading: as given, or 25 for each tenth of the plan.
+abbrev pub plan_in : Period → ℕ → ℕ
+plan_in q i = base_from (plan_at q) (call_in (cleared_at q 0)) 1 i - call_in (cleared_at q 1) i
+
+abbrev pub reading_in : Period → ℕ → ℕ
+reading_in q i = or_else (unit_read q i) (25 * plan_in q i)
+
 abbrev pub plan_of : Book → ℕ → ℕ → ℕ
-plan_of b p i = base_from (plan_at (period_at b p)) (call_of b 0 p) 1 i - call_of b 1 p i
+plan_of b p = plan_in (period_at b p)
 
 abbrev pub reading_of : Book → ℕ → ℕ → ℕ
-reading_of b p i = or_else (unit_read (period_at b p) i) (25 * plan_of b p i)
+reading_of b p = reading_in (period_at b p)
 
 -- The deviation of a unit, with its sign: 0 where it is no unit.
 abbrev pub deviation : Book → ℕ → ℕ → ℤ

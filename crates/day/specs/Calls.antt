@@ -1,11 +1,12 @@
 -- What each call does to a day's book, and when it is refused. Assumes nothing.
-use Rattle.std.specs.Prelude.{◌≡◌, ℕ, ◌*◌, ◌%◌, Bool, cond, not, ◌&&◌, ◌||◌, List, [], ◌∷◌, is_some, Some, None, Ok, Err, Option, Result, ◌==◌, nat_lt}
+use Rattle.std.specs.Prelude.{◌≡◌, ℕ, ◌*◌, ◌%◌, Bool, true, false, cond, not, ◌&&◌, ◌||◌, List, [], ◌∷◌, is_some, Some, None, Ok, Err, Option, Result, MatchResult, ◌==◌, nat_lt}
 use Rattle.sellers.specs.Faults.{TiersFault, StepsFault}
 use Rattle.sellers.specs.declared.fault.OfferFault.{OfferFault}
 use Rattle.sellers.specs.declared.step.Step.{Step}
 use Rattle.day.specs.declared.book.Book.{Book}
 use Rattle.day.specs.declared.book.Cleared.{Cleared}
 use Rattle.day.specs.declared.book.Enrolled.{Enrolled}
+use Rattle.day.specs.declared.book.Period.{Period}
 use Rattle.day.specs.declared.faults.Fault.{Fault}
 use Rattle.day.specs.declared.faults.Fault.TheVariants as f
 use Rattle.day.specs.Terms.{Enrolment, unit, pool, is_unit, is_pool, capacity_of, with_prices, with_steps}
@@ -20,6 +21,19 @@ Answer = Result (Unit {0}) Fault
 abbrev pub first_hit : List (Bool × Fault) → Option Fault
 first_hit [] = None
 first_hit (c ∷ cs) = cond c.0 (Some c.1) (first_hit cs)
+
+-- None of the checks hits.
+abbrev pub Passed : List (Bool × Fault) → Type 0
+Passed [] = Unit {0}
+Passed (c ∷ cs) = (c.0 ≡ false) × Passed cs
+
+-- A check that is passed with what it makes, or refuses with its fault.
+abbrev pub Tested : {X : Type 0} → Bool → Fault → (X → Type 0) → Result X Fault → Type 0
+Tested hits fault Made r = MatchResult r (λ x. (hits ≡ false) × Made x) (λ f. (hits ≡ true) × (f ≡ fault))
+
+-- All of these checks are passed with what they make, or the first that hits refuses.
+abbrev pub TestedAll : {X : Type 0} → List (Bool × Fault) → (X → Type 0) → Result X Fault → Type 0
+TestedAll cs Made r = MatchResult r (λ x. Passed cs × Made x) (λ f. first_hit cs ≡ Some f)
 
 -- A refused call leaves the book as it was; an accepted one leaves a book of which New holds.
 abbrev pub Answered : Option Fault → Book → (Book → Type 0) → Answer → Book → Type 0
@@ -60,6 +74,16 @@ pub data Late : Type 0 where
   clear : (round : ℕ) → Late
   read_unit : (seller energy : ℕ) → Late
   read_plant : (plant energy : ℕ) → Late
+
+-- The first checks of both enrolments of a seller, those of an offer of anyone, and those of a call for a round that may still be changed.
+abbrev pub free_checks : Enrolment → ℕ → List (Bool × Fault)
+free_checks e s = (nat_lt 63 s, f.Seller) ∷ (is_unit e || is_pool e, f.SellerTwice) ∷ []
+
+abbrev pub known_checks : Option Enrolled → ℕ → List (Bool × Fault)
+known_checks e s = (nat_lt 63 s, f.Seller) ∷ (not (is_some e), f.NotSuch) ∷ []
+
+abbrev pub open_checks : Period → ℕ → List (Bool × Fault)
+open_checks q k = (is_some (cleared_at q k), f.Cleared) ∷ (k == 1 && not (is_some (cleared_at q 0)), f.NotCleared) ∷ []
 
 -- The checks of each call, in rising number.
 abbrev pub enrol_unit_checks : Book → ℕ → ℕ → ℕ → ℕ → List (Bool × Fault)

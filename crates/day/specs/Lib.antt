@@ -1,15 +1,14 @@
 pub mod Terms
+pub mod Kinds
 pub mod Rounds
 pub mod Slots
 pub mod Reading
-pub mod Sound
 pub mod Faults
 pub mod Calls
 pub mod Runs
 pub mod History
 pub mod Alike
 pub mod Bills
-pub mod Figures
 pub mod Balance
 pub mod Law
 pub mod Reached

@@ -1,7 +1,9 @@
 -- What stands in a day's book. Assumes nothing.
-use Rattle.std.specs.Prelude.{ℕ, List, [], take, replicate, Some, None, Option, slice_index, slice_index_or, slice_set}
+use Rattle.std.specs.Prelude.{ℕ, List, [], take, replicate, Some, None, Option, option_map, slice_index, slice_index_or, slice_set}
 use Rattle.money.specs.declared.share.Share.{Share}
 use Rattle.sellers.specs.declared.step.Step.{Step}
+use Rattle.sellers.specs.declared.steps.StepOffer.{StepOffer}
+use Rattle.sellers.specs.declared.tiers.TierPrices.{TierPrices}
 use Rattle.day.specs.declared.book.Book.{Book}
 use Rattle.day.specs.declared.book.Cleared.{Cleared}
 use Rattle.day.specs.declared.book.Enrolled.{Enrolled}
@@ -9,7 +11,6 @@ use Rattle.day.specs.declared.book.Period.{Period}
 use Rattle.day.specs.declared.book.Role.{Role}
 use Rattle.day.specs.declared.book.Role.TheVariants.{Thermal, Pooled}
 use Rattle.day.specs.declared.book.Round.{Round}
-use Rattle.day.specs.declared.book.Steps.{Steps}
 use Rattle.day.specs.Terms.{Enrolment, nobody, unit, pool, base_from, called_before, curve_from}
 
 -- What is read past the last round, and past the last period.
@@ -30,18 +31,21 @@ blank = record { rounds = replicate 2 blank_round; units = replicate 64 None; pl
 abbrev pub opened : Share → Book
 opened s = record { share = s; sellers = replicate 64 None; plants = replicate 64 None; periods = replicate 96 blank }
 
-abbrev pub steps_of : Option Steps → Option (List Step)
-steps_of None = None
-steps_of (Some o) = Some (take o.count o.steps)
+-- The prices and the steps of an offer, if there is one.
+abbrev pub prices_of : Option TierPrices → Option (List ℕ)
+prices_of = option_map (λ o. o.prices)
+
+abbrev pub steps_of : Option StepOffer → Option (List Step)
+steps_of = option_map (λ o. take o.count o.steps)
 
 abbrev pub as_role : ℕ → ℕ → Role → Enrolment
-as_role a c (Thermal f o) = unit a c f o
+as_role a c (Thermal f o) = unit a c f.tenths (prices_of o)
 as_role a c (Pooled o) = pool a c (steps_of o)
 
 -- What an entry says in plain numbers.
 abbrev pub enrolled : Option Enrolled → Enrolment
 enrolled None = nobody
-enrolled (Some x) = as_role x.area x.capacity x.role
+enrolled (Some x) = as_role x.area x.capacity.megawatts x.role
 
 -- The seller of a number.
 abbrev pub seller_at : Book → ℕ → Enrolment

@@ -1,5 +1,5 @@
 -- The terms on which sellers take part in a round: who is enrolled as what, its offer, its base, and the curve that follows. Assumes nothing.
-use Rattle.std.specs.Prelude.{ℕ, ◌-◌, Bool, true, false, cond, List, Some, None, Option, ◌==◌}
+use Rattle.std.specs.Prelude.{ℕ, ◌-◌, Bool, true, false, cond, List, Some, None, Option, unwrap_or, ◌==◌}
 use Rattle.sellers.specs.Steps.{pool_power}
 use Rattle.sellers.specs.Tiers.{unit_power}
 use Rattle.sellers.specs.declared.step.Step.{Step}
@@ -41,8 +41,7 @@ with_steps ss (pool a c o) = pool a c (Some ss)
 
 -- A number that may have been given, or what stands in its place.
 abbrev pub or_else : Option ℕ → ℕ → ℕ
-or_else None n = n
-or_else (Some m) n = m
+or_else = unwrap_or
 
 -- The base of a unit in a round: as planned for it; if not, 0 day-ahead, and intraday the day-ahead base less the day-ahead call.
 abbrev pub base_from : (plan : ℕ → ℕ → Option ℕ) (called : ℕ → ℕ) → ℕ → ℕ → ℕ

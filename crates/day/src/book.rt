@@ -1,27 +1,28 @@
 // What a day holds: of each call the latest that was accepted, and the clearings. The fields are the crate's own.
+// Arrays by number: the subject numbers its 64 sellers and plants, 8 areas and 96 periods itself, and a day takes no heap.
 use money::share::Share;
-use sellers::step::Step;
-
-// The steps of a pool's offer: the first `count` of them.
-#[derive(Clone, Copy)]
-pub struct Steps {
-    pub(crate) count: u8,
-    pub(crate) steps: [Step; 8],
-}
+use sellers::capacity::Capacity;
+use sellers::power::Power;
+use sellers::steps::StepOffer;
+use sellers::tiers::TierPrices;
 
 // What a seller is enrolled as, and its latest offer.
 #[derive(Clone, Copy)]
 pub enum Role {
     // A unit: its floor, and the prices of its tiers.
-    Thermal(u16, Option<[u8; 8]>),
+    Thermal {
+        floor: Power,
+        prices: Option<TierPrices>,
+    },
     // A pool: its steps.
-    Pooled(Option<Steps>),
+    Pooled(Option<StepOffer>),
 }
 
 #[derive(Clone, Copy)]
 pub struct Enrolled {
+    // A number, as plants have it too: each question names an area by number, and there is none past the eight.
     pub(crate) area: u8,
-    pub(crate) capacity: u16,
+    pub(crate) capacity: Capacity,
     pub(crate) role: Role,
 }
 
@@ -38,6 +39,7 @@ pub struct Cleared {
 #[derive(Clone, Copy)]
 pub struct Round {
     pub(crate) wants: [u32; 8],
+    // A number: the borrow checker has no rule for a place inside an element that holds a type with a ghost field, as `Power` has.
     pub(crate) plans: [Option<u16>; 64],
     pub(crate) cleared: Option<Cleared>,
 }

@@ -1,58 +1,30 @@
-// What an entry of the book says of a seller, and the entry with another offer.
-ghost use Rattle.std.specs.Prelude.{◌≡◌, true, false, take, Some, MatchOption};
+// What an entry of the book says of a seller.
+ghost use Rattle.std.specs.Prelude.{◌≡◌, true, false, Some, IfSome, is_some, option_map, MatchOption};
+ghost use Rattle.day.specs.Bills.{unit_area};
 ghost use Rattle.day.specs.Reading.{enrolled};
-ghost use Rattle.day.specs.Terms.{is_unit, is_pool, capacity_of, with_prices, with_steps};
+ghost use Rattle.day.specs.Terms.{is_unit, capacity_of};
 
-use crate::book::{Enrolled, Role, Steps};
+use crate::book::{Enrolled, Role};
+use sellers::capacity::Capacity;
+
+impl Enrolled {
+    // Itself where it is a unit.
+    pub(crate) fn unit(self) -> Option<Enrolled>
+        ensures same { IfSome result (λ unit. unit ≡ self) }
+        ensures unit { is_some result ≡ is_unit (enrolled (Some self)) }
+        ensures area { option_map (λ unit. unit.area) result ≡ unit_area (enrolled (Some self)) }
+        ensures capacity { IfSome result (λ unit. unit.capacity.megawatts ≡ capacity_of (enrolled (Some self))) }
+    {
+        match self.role {
+            Role::Thermal { .. } => Some(self),
+            Role::Pooled(_) => None,
+        }
+    }
+}
 
 // The capacity of a unit; none where it is no unit.
-pub(crate) fn unit_capacity(entry: Option<Enrolled>) -> Option<u16>
-    ensures { MatchOption result (is_unit (enrolled entry) ≡ false) (λ c. (is_unit (enrolled entry) ≡ true) × (c ≡ capacity_of (enrolled entry))) }
+pub(crate) fn unit_capacity(entry: Option<Enrolled>) -> Option<Capacity>
+    ensures { MatchOption result (is_unit (enrolled entry) ≡ false) (λ c. (is_unit (enrolled entry) ≡ true) × (c.megawatts ≡ capacity_of (enrolled entry))) }
 {
-    let who = entry?;
-    match who.role {
-        Role::Thermal(_, _) => Some(who.capacity),
-        Role::Pooled(_) => None,
-    }
-}
-
-// The capacity of a pool; none where it is no pool.
-pub(crate) fn pool_capacity(entry: Option<Enrolled>) -> Option<u16>
-    ensures { MatchOption result (is_pool (enrolled entry) ≡ false) (λ c. (is_pool (enrolled entry) ≡ true) × (c ≡ capacity_of (enrolled entry))) }
-{
-    let who = entry?;
-    match who.role {
-        Role::Thermal(_, _) => None,
-        Role::Pooled(_) => Some(who.capacity),
-    }
-}
-
-// A unit's entry with these prices; none where it is no unit.
-pub(crate) fn with_prices(entry: Option<Enrolled>, prices: [u8; 8]) -> Option<Enrolled>
-    ensures { MatchOption result (is_unit (enrolled entry) ≡ false) (λ x. (is_unit (enrolled entry) ≡ true) × (enrolled (Some x) ≡ with_prices prices (enrolled entry))) }
-{
-    let who = entry?;
-    match who.role {
-        Role::Thermal(floor, _) => Some(Enrolled {
-            area: who.area,
-            capacity: who.capacity,
-            role: Role::Thermal(floor, Some(prices)),
-        }),
-        Role::Pooled(_) => None,
-    }
-}
-
-// A pool's entry with these steps; none where it is no pool.
-pub(crate) fn with_steps(entry: Option<Enrolled>, offer: Steps) -> Option<Enrolled>
-    ensures { MatchOption result (is_pool (enrolled entry) ≡ false) (λ x. (is_pool (enrolled entry) ≡ true) × (enrolled (Some x) ≡ with_steps (take offer.count offer.steps) (enrolled entry))) }
-{
-    let who = entry?;
-    match who.role {
-        Role::Thermal(_, _) => None,
-        Role::Pooled(_) => Some(Enrolled {
-            area: who.area,
-            capacity: who.capacity,
-            role: Role::Pooled(Some(offer)),
-        }),
-    }
+    Some(entry?.unit()?.capacity)
 }

@@ -1,6 +1,7 @@
 // Why a call was refused.
 ghost use Rattle.std.specs.Prelude.{◌≡◌};
 ghost use Rattle.day.specs.Faults.{refusal};
+ghost use Rattle.day.specs.declared.faults.Fault.TheVariants as refused;
 
 use sellers::fault::OfferFault;
 
@@ -46,8 +47,17 @@ pub enum Fault {
     Energy,
 }
 
+// The refusal of a wrong offer.
+impl From<OfferFault> for Fault {
+    ghost from_gives = { λ wrong fault. fault ≡ refused.Offer wrong };
+
+    fn from(wrong: OfferFault) -> Fault {
+        Fault::Offer(wrong)
+    }
+}
+
 impl Fault {
-    // The number that the refusal is known by.
+    // The number that the refusal is known by: a wrong offer has that of its own fault, so no cast gives it.
     pub fn number(self) -> u8
         ensures { result ≡ refusal self }
     {

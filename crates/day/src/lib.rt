@@ -4,21 +4,25 @@
 
 mod bills;
 mod book;
+mod checks;
 mod closed;
 mod entries;
 mod faults;
-mod figures;
 mod fresh;
+mod open_round;
 mod opening;
 mod parties;
 mod penalties;
+mod period;
 mod questions;
+mod round_kind;
 mod rounds;
 mod running;
 mod share;
+mod sums;
 mod totals;
 
-pub use book::{Book, Cleared, Enrolled, Period, Role, Round, Steps};
+pub use book::{Book, Cleared, Enrolled, Period, Role, Round};
 pub use closed::ClosedDay;
 pub use faults::Fault;
 pub use opening::OpeningDay;

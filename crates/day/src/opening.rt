@@ -1,17 +1,16 @@
 // A day that is being opened: it takes enrolments and offers.
-ghost use Rattle.std.specs.Prelude.{◌≡◌, length};
+ghost use Rattle.std.specs.Prelude.{◌≡◌};
 ghost use Rattle.day.specs.Calls as calls;
 ghost use Rattle.day.specs.Calls.{EarlyDoes};
 ghost use Rattle.day.specs.Reached.{Opened};
 ghost use Rattle.day.specs.Reading.{opened};
 
-use crate::book::{Book, Enrolled, Role, Steps};
-use crate::entries::{pool_capacity, with_prices, with_steps};
+use crate::book::{Book, Enrolled, Role};
+use crate::checks::{free_number, rated, seller_at, vacant, within, within_capacity};
 use crate::faults::Fault;
 use crate::fresh::blank_period;
 use crate::running::RunningDay;
 use money::share::Share;
-use sellers::capacity::Capacity;
 use sellers::step::Step;
 use sellers::steps::StepOffer;
 use sellers::tiers::TierPrices;
@@ -19,7 +18,6 @@ use sellers::tiers::TierPrices;
 #[derive(Drop)]
 pub struct OpeningDay {
     book: Book,
-    ghost long: { length book.periods ≡ 96 },
     ghost reached: { Opened book },
 }
 
@@ -47,26 +45,18 @@ impl OpeningDay {
     ) -> Result<(), Fault>
         ensures { EarlyDoes (calls.enrol_unit seller area capacity floor) self.old.book result self.new.book }
     {
-        if seller > 63 {
-            return Err(Fault::Seller);
-        }
-        let at = seller as usize;
-        if let Some(_) = self.book.sellers[at] {
-            return Err(Fault::SellerTwice);
-        }
-        if capacity == 0 || capacity > 2000 {
-            return Err(Fault::Capacity);
-        }
-        if floor > 10 * capacity {
-            return Err(Fault::Floor);
-        }
-        if area > 7 {
-            return Err(Fault::Area);
-        }
+        let at = free_number(&self.book.sellers, seller)?;
+        let capacity = rated(capacity)?;
+        let floor = within_capacity(floor, capacity, Fault::Floor)?;
+        within(area, 7, Fault::Area)?;
+        let role = Role::Thermal {
+            floor,
+            prices: None,
+        };
         self.book.sellers[at] = Some(Enrolled {
             area,
             capacity,
-            role: Role::Thermal(floor, None),
+            role,
         });
         Ok(())
     }
@@ -74,19 +64,9 @@ impl OpeningDay {
     pub fn enrol_pool(&mut self, seller: u8, area: u8, capacity: u16) -> Result<(), Fault>
         ensures { EarlyDoes (calls.enrol_pool seller area capacity) self.old.book result self.new.book }
     {
-        if seller > 63 {
-            return Err(Fault::Seller);
-        }
-        let at = seller as usize;
-        if let Some(_) = self.book.sellers[at] {
-            return Err(Fault::SellerTwice);
-        }
-        if capacity == 0 || capacity > 2000 {
-            return Err(Fault::Capacity);
-        }
-        if area > 7 {
-            return Err(Fault::Area);
-        }
+        let at = free_number(&self.book.sellers, seller)?;
+        let capacity = rated(capacity)?;
+        within(area, 7, Fault::Area)?;
         self.book.sellers[at] = Some(Enrolled {
             area,
             capacity,
@@ -98,16 +78,9 @@ impl OpeningDay {
     pub fn enrol_plant(&mut self, plant: u8, area: u8) -> Result<(), Fault>
         ensures { EarlyDoes (calls.enrol_plant plant area) self.old.book result self.new.book }
     {
-        if area > 7 {
-            return Err(Fault::Area);
-        }
-        if plant > 63 {
-            return Err(Fault::Plant);
-        }
-        let at = plant as usize;
-        if let Some(_) = self.book.plants[at] {
-            return Err(Fault::PlantTwice);
-        }
+        within(area, 7, Fault::Area)?;
+        let at = within(plant, 63, Fault::Plant)?;
+        vacant(self.book.plants[at], Fault::PlantTwice)?;
         self.book.plants[at] = Some(area);
         Ok(())
     }
@@ -116,52 +89,29 @@ impl OpeningDay {
     pub fn offer_unit(&mut self, seller: u8, prices: [u8; 8]) -> Result<(), Fault>
         ensures { EarlyDoes (calls.offer_unit seller prices) self.old.book result self.new.book }
     {
-        if seller > 63 {
-            return Err(Fault::Seller);
-        }
-        let at = seller as usize;
-        let entry = self.book.sellers[at];
-        let Some(offered) = with_prices(entry, prices) else {
+        let (at, who) = seller_at(&self.book.sellers, seller)?;
+        let Role::Thermal { floor, .. } = who.role else {
             return Err(Fault::NotSuch);
         };
-        match TierPrices::new(prices) {
-            Err(fault) => Err(Fault::Offer(fault)),
-            Ok(_) => {
-                self.book.sellers[at] = Some(offered);
-                Ok(())
-            }
-        }
+        let role = Role::Thermal {
+            floor,
+            prices: Some(TierPrices::new(prices)?),
+        };
+        self.book.sellers[at] = Some(Enrolled { role, ..who });
+        Ok(())
     }
 
     // A pool's offer: one to eight steps. A later one replaces the earlier.
     pub fn offer_pool(&mut self, seller: u8, steps: &[Step]) -> Result<(), Fault>
         ensures { EarlyDoes (calls.offer_pool seller steps.now) self.old.book result self.new.book }
     {
-        if seller > 63 {
-            return Err(Fault::Seller);
-        }
-        let at = seller as usize;
-        let entry = self.book.sellers[at];
-        let Some(capacity) = pool_capacity(entry) else {
+        let (at, who) = seller_at(&self.book.sellers, seller)?;
+        let Role::Pooled(_) = who.role else {
             return Err(Fault::NotSuch);
         };
-        let Some(rated) = Capacity::new(capacity) else {
-            return Err(Fault::Capacity);
-        };
-        match StepOffer::new(rated, steps) {
-            Err(fault) => Err(Fault::Offer(fault)),
-            Ok(offer) => {
-                let offer = Steps {
-                    count: offer.count(),
-                    steps: offer.steps(),
-                };
-                let Some(offered) = with_steps(entry, offer) else {
-                    return Err(Fault::NotSuch);
-                };
-                self.book.sellers[at] = Some(offered);
-                Ok(())
-            }
-        }
+        let role = Role::Pooled(Some(StepOffer::new(who.capacity, steps)?));
+        self.book.sellers[at] = Some(Enrolled { role, ..who });
+        Ok(())
     }
 
     // Closes the offers: the day runs.

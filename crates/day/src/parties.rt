@@ -1,4 +1,5 @@
 // Who takes part in a share-out of the day: areas by want, units by reading, plants by net energy.
+// Three types, since a row of areas, of units or of plants is no row of the others: each weighs by a figure of its own.
 use sharing::party::Party;
 
 // An area, by what it wants in a round.

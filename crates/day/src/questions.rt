@@ -1,4 +1,5 @@
 // What a closed day answers of calls, prices, fees and charges: 0, or no price, where there is no such round, period or party.
+// Plain numbers, since any may be asked, and the private questions take the same.
 ghost use Rattle.std.specs.Prelude.{◌≡◌, ℕ, ◌+◌, ◌^◌, ◌<◌, ◌≤◌, length, is_some, if◌then◌else◌, slice_index_or};
 ghost use Rattle.sharing.specs.Places.{total, at_place};
 ghost use Rattle.sharing.specs.Shares.{share_of};
@@ -8,10 +9,11 @@ ghost use Rattle.day.specs.Bills as bills;
 ghost use Rattle.day.specs.Reading.{no_round, period_at, cleared_at, price_in, call_in, received_in};
 ghost use Rattle.day.specs.Terms.{or_else};
 
-use crate::bills::{area_of_plant, cleared_in, producers};
+use crate::bills::{cleared_in, listed, producers};
 use crate::book::{Cleared, Period, Round};
 use crate::closed::ClosedDay;
 use crate::fresh::blank_period;
+use crate::period::called_in;
 use crate::rounds::wanted;
 use money::fee::fee;
 use money::share::split;
@@ -23,107 +25,77 @@ use sharing::shares::Shares;
 fn price_or_zero(cleared: Option<Cleared>) -> u8
     ensures { result ≡ or_else (price_in cleared) 0 }
 {
-    let Some(c) = cleared else {
-        return 0;
-    };
-    match c.price {
-        Some(price) => price,
-        None => 0,
-    }
+    cleared.and_then(|of| of.price).unwrap_or(0)
 }
 
-// What an area received in a cleared round.
+// What an area received in a cleared round. Beside `called_in`: one text for both would take the array by a closure, and be no shorter.
 fn received_in(cleared: Option<Cleared>, area: u8) -> u32
     ensures { result ≡ received_in cleared area }
 {
-    let Some(c) = cleared else {
-        return 0;
-    };
-    if area > 7 {
-        return 0;
-    }
-    c.received[area as usize]
+    cleared
+        .and_then(|of| of.received.get(usize::from(area)).copied())
+        .unwrap_or(0)
 }
 
 // What was wanted in a cleared round: 0 where it is not cleared, or there is no such round.
 fn wanted_in(rounds: &[Round; 2], round: u8) -> u64
     ensures { result ≡ (if is_some (slice_index_or rounds.now round no_round).cleared then total (at_place (slice_index_or rounds.now round no_round).wants) else 0) }
 {
-    if round > 1 {
-        return 0;
-    }
-    let of = rounds[round as usize];
-    match of.cleared {
-        Some(_) => wanted(&of.wants),
-        None => 0,
+    match rounds.get(usize::from(round)) {
+        Some(of) if of.cleared.is_some() => wanted(&of.wants),
+        _ => 0,
     }
 }
 
 impl ClosedDay {
     // A period as it is read: a blank one where there is no such period.
+    // A copy: the blank one cannot be lent, as no static may be that holds an array of structs; and with an `Option`, each that reads it would say what stands in place of none.
     pub(crate) fn period(&self, period: u8) -> Period
         ensures { ReadAlike result (period_at self.now.book period) }
     {
-        if period > 95 {
-            return blank_period();
-        }
-        self.book.periods[period as usize]
+        self.book
+            .periods
+            .get(usize::from(period))
+            .copied()
+            .unwrap_or_else(blank_period)
     }
 
     // The clearing of a round of a period.
     pub(crate) fn cleared(&self, round: u8, period: u8) -> Option<Cleared>
         ensures { result ≡ cleared_at (period_at self.now.book period) round }
     {
-        if period > 95 {
-            return None;
-        }
-        let of = self.book.periods[period as usize];
-        cleared_in(&of.rounds, round)
+        cleared_in(&self.period(period).rounds, round)
     }
 
     // The call of a seller in a round, in tenths of a megawatt.
     pub fn call(&self, seller: u8, round: u8, period: u8) -> u32
         ensures { result ≡ call_of self.now.book round period seller }
     {
-        match self.cleared(round, period) {
-            Some(c) => if seller > 63 {
-                0
-            } else {
-                c.calls[seller as usize]
-            },
-            None => 0,
-        }
+        called_in(self.cleared(round, period), usize::from(seller))
     }
 
     // The price of a round, in tens of yuan per megawatt-hour.
     pub fn price(&self, round: u8, period: u8) -> Option<u8>
         ensures { result ≡ price_of self.now.book round period }
     {
-        match self.cleared(round, period) {
-            Some(c) => c.price,
-            None => None,
-        }
+        self.cleared(round, period)?.price
     }
 
     // What the areas wanted together in a cleared round, in tenths of a megawatt.
     pub fn wanted(&self, round: u8, period: u8) -> u64
         ensures { result ≡ wanted_of self.now.book round period }
     {
-        if period > 95 {
-            return 0;
-        }
-        let of = self.book.periods[period as usize];
-        wanted_in(&of.rounds, round)
+        self.book
+            .periods
+            .get(usize::from(period))
+            .map_or(0, |of| wanted_in(&of.rounds, round))
     }
 
     // What was brought in a round, in tenths of a megawatt.
     pub fn brought(&self, round: u8, period: u8) -> u32
         ensures { result ≡ brought_of self.now.book round period }
     {
-        match self.cleared(round, period) {
-            Some(c) => c.brought,
-            None => 0,
-        }
+        self.cleared(round, period).map_or(0, |of| of.brought)
     }
 
     // The fee of a seller in a round, in fen.
@@ -157,36 +129,29 @@ impl ClosedDay {
     }
 
     // The shares of an area's plants in its producers' part, by net energy.
+    // Beside the shares of units: other parties, amount and clauses, and the share-out they have in common is one function already.
     pub(crate) fn plant_shares(&self, area: u8, period: u8) -> Shares
         ensures parts { (j : ℕ) → j < 64 → at_place result.parts j ≡ share_of (net self.now.book period area) (bills.producers self.now.book period area) j }
         ensures uncarried { result.uncarried ≡ uncarried_charge self.now.book period area }
     {
         let (part, _) = self.split(area, period);
-        let of = self.period(period);
-        let plants = self.book.plants;
-        let parties = producers(&plants, &of.plants, area);
-        share_out(part, &Row::full(&parties))
+        let parties = producers(&self.book.plants, &self.period(period).plants, area);
+        share_out(part, &Row::from(&parties))
     }
 
-    // The charge of a plant in a period, in fen.
+    // The charge of a plant in a period, in fen. Beside a unit's refund: a public question of its own, in one expression.
     pub fn plant_charge(&self, plant: u8, period: u8) -> u64
         ensures { result ≡ plant_charge self.now.book period plant }
     {
-        let plants = self.book.plants;
-        match area_of_plant(&plants, plant) {
-            Some(area) => {
-                let shares = self.plant_shares(area, period);
-                shares.parts[plant as usize]
-            }
-            None => 0,
-        }
+        listed(&self.book.plants, usize::from(plant)).map_or(0, |area| {
+            self.plant_shares(area, period).parts[usize::from(plant)]
+        })
     }
 
     // What no plant of an area carries of its producers' part in a period, in fen.
     pub fn uncarried_charge(&self, area: u8, period: u8) -> u64
         ensures { result ≡ uncarried_charge self.now.book period area }
     {
-        let shares = self.plant_shares(area, period);
-        shares.uncarried
+        self.plant_shares(area, period).uncarried
     }
 }

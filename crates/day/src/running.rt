@@ -1,5 +1,6 @@
 // A day that runs: it takes plans, wants, clearings and readings.
-ghost use Rattle.std.specs.Prelude.{◌≡◌, length};
+// Plain numbers, a round among them: any may be handed in, and one that there is not is refused.
+ghost use Rattle.std.specs.Prelude.{◌≡◌};
 ghost use Rattle.day.specs.Calls as calls;
 ghost use Rattle.day.specs.Calls.{Does};
 ghost use Rattle.day.specs.Balance.{Isolated};
@@ -8,21 +9,24 @@ ghost use Rattle.day.specs.Only.{OnlyDay, SameBills};
 ghost use Rattle.day.specs.Reached.{Opened, Ran, Accounted};
 
 use crate::book::Book;
+use crate::checks::{
+    not_called, open_round, period_at, readable, settled, tradable, unit_at, within,
+    within_capacity,
+};
 use crate::closed::ClosedDay;
-use crate::entries::unit_capacity;
 use crate::faults::Fault;
-use crate::rounds::clear_round;
+use crate::open_round::OpenRound;
+use crate::round_kind::RoundKind;
 
 #[derive(Drop)]
 pub struct RunningDay {
     book: Book,
-    ghost long: { length book.periods ≡ 96 },
     ghost reached: { Ran book },
 }
 
 impl RunningDay {
     pub(crate) fn start(book: Book) -> RunningDay
-        requires { (length book.periods ≡ 96) × (Opened book) }
+        requires { Opened book }
         ensures { result.book ≡ book }
     {
         RunningDay { book }
@@ -32,36 +36,15 @@ impl RunningDay {
     pub fn plan(&mut self, round: u8, seller: u8, period: u8, base: u16) -> Result<(), Fault>
         ensures { Does period (calls.plan round seller base) self.old.book result self.new.book }
     {
-        if seller > 63 {
-            return Err(Fault::Seller);
-        }
-        let entry = self.book.sellers[seller as usize];
-        let Some(capacity) = unit_capacity(entry) else {
-            return Err(Fault::NotSuch);
-        };
-        if round > 1 {
-            return Err(Fault::Round);
-        }
-        if period > 95 {
-            return Err(Fault::Period);
-        }
-        if u32::from(base) > 10 * u32::from(capacity) {
-            return Err(Fault::Base);
-        }
-        let at = period as usize;
-        let k = round as usize;
-        if let Some(_) = self.book.periods[at].rounds[k].cleared {
-            return Err(Fault::Cleared);
-        }
-        if round == 1 {
-            let Some(first) = self.book.periods[at].rounds[0].cleared else {
-                return Err(Fault::NotCleared);
-            };
-            if first.calls[seller as usize] > 0 {
-                return Err(Fault::Called);
-            }
-        }
-        self.book.periods[at].rounds[k].plans[seller as usize] = Some(base);
+        let i = within(seller, 63, Fault::Seller)?;
+        let capacity = unit_at(&self.book.sellers, i)?;
+        let kind = RoundKind::try_from(round)?;
+        let at = within(period, 95, Fault::Period)?;
+        within_capacity(base, capacity, Fault::Base)?;
+        let of = period_at(&self.book.periods, at);
+        open_round(of, kind)?;
+        not_called(of, kind, i)?;
+        self.book.periods[at].rounds[kind.index()].plans[i] = Some(base);
         Ok(())
     }
 
@@ -69,29 +52,12 @@ impl RunningDay {
     pub fn want(&mut self, round: u8, area: u8, period: u8, power: u32) -> Result<(), Fault>
         ensures { Does period (calls.want round area power) self.old.book result self.new.book }
     {
-        if area > 7 {
-            return Err(Fault::Area);
-        }
-        if round > 1 {
-            return Err(Fault::Round);
-        }
-        if period > 95 {
-            return Err(Fault::Period);
-        }
-        if power % 500 != 0 || power > 200_000 {
-            return Err(Fault::Want);
-        }
-        let at = period as usize;
-        let k = round as usize;
-        if let Some(_) = self.book.periods[at].rounds[k].cleared {
-            return Err(Fault::Cleared);
-        }
-        if round == 1 {
-            let Some(_) = self.book.periods[at].rounds[0].cleared else {
-                return Err(Fault::NotCleared);
-            };
-        }
-        self.book.periods[at].rounds[k].wants[area as usize] = power;
+        let a = within(area, 7, Fault::Area)?;
+        let kind = RoundKind::try_from(round)?;
+        let at = within(period, 95, Fault::Period)?;
+        tradable(power)?;
+        open_round(period_at(&self.book.periods, at), kind)?;
+        self.book.periods[at].rounds[kind.index()].wants[a] = power;
         Ok(())
     }
 
@@ -99,24 +65,12 @@ impl RunningDay {
     pub fn read_unit(&mut self, seller: u8, period: u8, energy: u32) -> Result<(), Fault>
         ensures { Does period (calls.read_unit seller energy) self.old.book result self.new.book }
     {
-        if seller > 63 {
-            return Err(Fault::Seller);
-        }
-        let entry = self.book.sellers[seller as usize];
-        let Some(_) = unit_capacity(entry) else {
-            return Err(Fault::NotSuch);
-        };
-        if period > 95 {
-            return Err(Fault::Period);
-        }
-        let at = period as usize;
-        let Some(_) = self.book.periods[at].rounds[1].cleared else {
-            return Err(Fault::NotCleared);
-        };
-        if energy > 1_000_000 {
-            return Err(Fault::Energy);
-        }
-        self.book.periods[at].units[seller as usize] = Some(energy);
+        let i = within(seller, 63, Fault::Seller)?;
+        unit_at(&self.book.sellers, i)?;
+        let at = within(period, 95, Fault::Period)?;
+        settled(period_at(&self.book.periods, at))?;
+        readable(energy)?;
+        self.book.periods[at].units[i] = Some(energy);
         Ok(())
     }
 
@@ -124,19 +78,11 @@ impl RunningDay {
     pub fn read_plant(&mut self, plant: u8, period: u8, energy: u32) -> Result<(), Fault>
         ensures { Does period (calls.read_plant plant energy) self.old.book result self.new.book }
     {
-        if plant > 63 {
-            return Err(Fault::Plant);
-        }
-        let Some(_) = self.book.plants[plant as usize] else {
-            return Err(Fault::NoPlant);
-        };
-        if period > 95 {
-            return Err(Fault::Period);
-        }
-        if energy > 1_000_000 {
-            return Err(Fault::Energy);
-        }
-        self.book.periods[period as usize].plants[plant as usize] = energy;
+        let j = within(plant, 63, Fault::Plant)?;
+        self.book.plants[j].ok_or(Fault::NoPlant)?;
+        let at = within(period, 95, Fault::Period)?;
+        readable(energy)?;
+        self.book.periods[at].plants[j] = energy;
         Ok(())
     }
 
@@ -144,25 +90,17 @@ impl RunningDay {
     pub fn clear(&mut self, round: u8, period: u8) -> Result<(), Fault>
         ensures { Does period (calls.clear round) self.old.book result self.new.book }
     {
-        if round > 1 {
-            return Err(Fault::Round);
-        }
-        if period > 95 {
-            return Err(Fault::Period);
-        }
-        let at = period as usize;
-        let k = round as usize;
-        if let Some(_) = self.book.periods[at].rounds[k].cleared {
-            return Err(Fault::Cleared);
-        }
-        if round == 1 {
-            let Some(_) = self.book.periods[at].rounds[0].cleared else {
-                return Err(Fault::NotCleared);
-            };
-        }
-        let before = self.book.periods[at];
-        let done = clear_round(&self.book.sellers, &before, k);
-        self.book.periods[at].rounds[k].cleared = Some(done);
+        let kind = RoundKind::try_from(round)?;
+        let at = within(period, 95, Fault::Period)?;
+        let of = period_at(&self.book.periods, at);
+        open_round(of, kind)?;
+        let round = OpenRound {
+            sellers: &self.book.sellers,
+            period: of,
+            kind,
+        };
+        let cleared = round.clear();
+        self.book.periods[at].rounds[kind.index()].cleared = Some(cleared);
         Ok(())
     }
 

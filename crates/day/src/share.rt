@@ -9,8 +9,5 @@ pub fn tested_share(thousandths: u16) -> Result<Share, Fault>
     ensures made { IfOk result (λ s. (thousandths ≤ 1000) × (s.thousandths ≡ thousandths)) }
     ensures refused { IfErr result (λ f. (1000 < thousandths) × (f ≡ Fault.Share)) }
 {
-    match Share::new(thousandths) {
-        Some(share) => Ok(share),
-        None => Err(Fault::Share),
-    }
+    Share::new(thousandths).ok_or(Fault::Share)
 }

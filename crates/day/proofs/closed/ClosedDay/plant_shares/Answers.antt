@@ -1,4 +1,4 @@
-use Rattle.std.proofs.Common.{◌≡◌, ℕ, ◌<◌, cond, eqb, List, length, get_or, None, ap, ◌∙◌}
+use Rattle.std.proofs.Common.{◌≡◌, ℕ, ◌<◌, cond, eqb, List, length, get_or, None, ap, ◌∙◌, arith}
 use Rattle.sharing.specs.Places.{total}
 use Rattle.sharing.specs.Shares.{share_of}
 use Rattle.day.specs.Bills.{in_area, net, producers}
@@ -9,12 +9,12 @@ use Rattle.day.proofs.closed.ClosedDay.plant_shares.Goals as goal
 pub returns : goal.returns
 returns c =
     let b = c.args.self.now.book in
-    let items = c.full.result.items.now in
+    let items = c.from.result.items.now in
     let rows = c.producers-parties.ensures in
-    let same : items ≡ c.producers-parties.result = c.full.ensures in
-    let long : length items ≡ 64 = ap length same ∙ rows.0 in
+    let same : items ≡ c.producers-parties.result = c.from.ensures in
+    let long : length items ≡ 64 = ap length same ∙ omega arith in
     let weigh : (j : ℕ) → j < 64 → (get_or items j (record { net = 0 })).net ≡ net b c.args.period c.args.area j =
-    λ j l. ap (λ (xs : List Producer). (get_or xs j (record { net = 0 })).net) same ∙ rows.1 j l ∙ ap (λ g. cond (in_area (get_or b.plants j None) c.args.area) (g j) 0) c.period-of.ensures.plants in
+    λ j l. ap (λ (xs : List Producer). (get_or xs j (record { net = 0 })).net) same ∙ rows j l ∙ ap (λ g. cond (in_area (get_or b.plants j None) c.args.area) (g j) 0) c.period.ensures.plants in
     let part : c.split-part.result.0 ≡ producers b c.args.period c.args.area = c.split-part.ensures.producers in
     let e = c.share_out.ensures in
     let f : Producer → ℕ = λ x. x.net in
