@@ -1,4 +1,4 @@
 -- The lemmas of the records.
-mod Arms
+pub mod Said
 pub mod Within
 pub mod RoundTrip

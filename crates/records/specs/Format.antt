@@ -1,7 +1,7 @@
 -- How each record is written, and that reading and writing agree. Assumes nothing.
-use Rattle.std.specs.Prelude.{◌≡◌, ℕ, ◌*◌, ◌/◌, ◌%◌, ◌<◌, true, List, [], ◌∷◌, ◌++◌, length, drop, Ok, codes, slice_index}
+use Rattle.std.specs.Prelude.{◌≡◌, ℕ, ◌*◌, ◌/◌, ◌%◌, ◌<◌, true, List, [], ◌∷◌, ◌++◌, length, drop, Ok, slice_index}
 use Rattle.records.specs.declared.kind.Stage.{Stage}
-use Rattle.records.specs.Marks.{stage_for, stage_is}
+use Rattle.records.specs.Marks.{mark_of, stage_for, stage_is}
 use Rattle.records.specs.Records.{Item, open_day, enrol_unit, enrol_pool, enrol_plant, offer_unit, offer_pool, close_offers, plan, want, clear, read_unit, read_plant, close_day, kind_for, size, said}
 
 -- A number in one byte.
@@ -16,37 +16,31 @@ two n = n / 256 ∷ n % 256 ∷ []
 abbrev pub four : ℕ → List ℕ
 four n = n / 16777216 ∷ n / 65536 % 256 ∷ n / 256 % 256 ∷ n % 256 ∷ []
 
--- How each record is written.
+-- How the body of each record is written.
+abbrev pub fields : Item → List ℕ
+fields (open_day share) = two share
+fields (enrol_unit seller area capacity floor) = one seller ++ (one area ++ (two capacity ++ two floor))
+fields (enrol_pool seller area capacity) = one seller ++ (one area ++ two capacity)
+fields (enrol_plant plant area) = one plant ++ one area
+fields (offer_unit seller prices) = one seller ++ prices
+fields (offer_pool seller count shown) = one seller ++ (one count ++ shown)
+fields close_offers = []
+fields (plan round seller period power) = one round ++ (one seller ++ (one period ++ two power))
+fields (want round area period power) = one round ++ (one area ++ (one period ++ four power))
+fields (clear round period) = one round ++ one period
+fields (read_unit seller period energy) = one seller ++ (one period ++ four energy)
+fields (read_plant plant period energy) = one plant ++ (one period ++ four energy)
+fields close_day = []
+
+-- How a record is written: the mark of its kind, then its body.
 abbrev pub written : Item → List ℕ
-written (open_day share) = codes "DA" ++ two share
-written (enrol_unit seller area capacity floor) = codes "EU" ++ (one seller ++ (one area ++ (two capacity ++ two floor)))
-written (enrol_pool seller area capacity) = codes "EP" ++ (one seller ++ (one area ++ two capacity))
-written (enrol_plant plant area) = codes "EW" ++ (one plant ++ one area)
-written (offer_unit seller prices) = codes "OU" ++ (one seller ++ prices)
-written (offer_pool seller count shown) = codes "OP" ++ (one seller ++ (one count ++ shown))
-written close_offers = codes "CO"
-written (plan round seller period power) = codes "BA" ++ (one round ++ (one seller ++ (one period ++ two power)))
-written (want round area period power) = codes "WA" ++ (one round ++ (one area ++ (one period ++ four power)))
-written (clear round period) = codes "CL" ++ (one round ++ one period)
-written (read_unit seller period energy) = codes "RU" ++ (one seller ++ (one period ++ four energy))
-written (read_plant plant period energy) = codes "RW" ++ (one plant ++ (one period ++ four energy))
-written close_day = codes "CD"
+written x = mark_of (kind_for x) ++ fields x
 
 -- Eight prices, and three bytes for each step.
 abbrev pub Whole : Item → Type 0
-Whole (open_day share) = Unit {0}
-Whole (enrol_unit seller area capacity floor) = Unit {0}
-Whole (enrol_pool seller area capacity) = Unit {0}
-Whole (enrol_plant plant area) = Unit {0}
 Whole (offer_unit seller prices) = length prices ≡ 8
 Whole (offer_pool seller count shown) = length shown ≡ 3 * count
-Whole close_offers = Unit {0}
-Whole (plan round seller period power) = Unit {0}
-Whole (want round area period power) = Unit {0}
-Whole (clear round period) = Unit {0}
-Whole (read_unit seller period energy) = Unit {0}
-Whole (read_plant plant period energy) = Unit {0}
-Whole close_day = Unit {0}
+Whole _ = Unit {0}
 
 -- What is written is read back, whatever follows it, and takes as many bytes as the record is said to.
 abbrev pub ReadsBack : Type 0

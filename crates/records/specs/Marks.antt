@@ -1,5 +1,5 @@
 -- The marks of a day file, the stage of the day that each is for, and the numbers of the refusals. Assumes nothing.
-use Rattle.std.specs.Prelude.{◌≡◌, ℕ, Bool, false, cond, ◌&&◌, List, [], ◌∷◌, length, drop, Some, None, codes, Option, ◌==◌, nat_lt, slice_index}
+use Rattle.std.specs.Prelude.{◌≡◌, ℕ, Bool, cond, ◌&&◌, List, [], ◌∷◌, Some, None, codes, Option, Result, MatchResult, ◌==◌, slice_index}
 use Rattle.records.specs.declared.kind.Kind.{Kind}
 use Rattle.records.specs.declared.kind.Kind.TheVariants as k
 use Rattle.records.specs.declared.kind.Stage.{Stage}
@@ -18,30 +18,33 @@ abbrev pub byte : List ℕ → ℕ → ℕ
 byte bs i = slice_index bs i
 
 -- The mark of each kind of record.
-abbrev pub marks : List (List ℕ × Kind)
-marks =
-    (codes "DA", k.Open) ∷
-    (codes "EU", k.EnrolUnit) ∷
-    (codes "EP", k.EnrolPool) ∷
-    (codes "EW", k.EnrolPlant) ∷
-    (codes "OU", k.OfferUnit) ∷
-    (codes "OP", k.OfferPool) ∷
-    (codes "CO", k.CloseOffers) ∷
-    (codes "BA", k.Plan) ∷
-    (codes "WA", k.Want) ∷
-    (codes "CL", k.Clear) ∷
-    (codes "RU", k.ReadUnit) ∷
-    (codes "RW", k.ReadPlant) ∷
-    (codes "CD", k.CloseDay) ∷ []
+abbrev pub mark_of : Kind → List ℕ
+mark_of k.Open = codes "DA"
+mark_of k.EnrolUnit = codes "EU"
+mark_of k.EnrolPool = codes "EP"
+mark_of k.EnrolPlant = codes "EW"
+mark_of k.OfferUnit = codes "OU"
+mark_of k.OfferPool = codes "OP"
+mark_of k.CloseOffers = codes "CO"
+mark_of k.Plan = codes "BA"
+mark_of k.Want = codes "WA"
+mark_of k.Clear = codes "CL"
+mark_of k.ReadUnit = codes "RU"
+mark_of k.ReadPlant = codes "RW"
+mark_of k.CloseDay = codes "CD"
 
--- The kind whose mark in the table is the bytes a and b, if there is one.
-abbrev pub look_up : List (List ℕ × Kind) → ℕ → ℕ → Option Kind
+-- The kinds of record.
+abbrev pub kinds : List Kind
+kinds = k.Open ∷ k.EnrolUnit ∷ k.EnrolPool ∷ k.EnrolPlant ∷ k.OfferUnit ∷ k.OfferPool ∷ k.CloseOffers ∷ k.Plan ∷ k.Want ∷ k.Clear ∷ k.ReadUnit ∷ k.ReadPlant ∷ k.CloseDay ∷ []
+
+-- The first of some kinds whose mark is the bytes a and b, if there is one.
+abbrev pub look_up : List Kind → ℕ → ℕ → Option Kind
 look_up [] a b = None
-look_up (m ∷ ms) a b = cond (a == byte m.0 0 && b == byte m.0 1) (Some m.1) (look_up ms a b)
+look_up (kind ∷ later) a b = cond (a == byte (mark_of kind) 0 && b == byte (mark_of kind) 1) (Some kind) (look_up later a b)
 
 -- The kind that the first two bytes name.
 abbrev pub kind_of : List ℕ → Option Kind
-kind_of bs = look_up marks (byte bs 0) (byte bs 1)
+kind_of bs = look_up kinds (byte bs 0) (byte bs 1)
 
 -- The stage of the day that a kind of record is for; a closed day takes none.
 abbrev pub stage_for : Kind → Stage
@@ -70,10 +73,6 @@ place s.Closed = 3
 abbrev pub stage_is : Stage → Stage → Bool
 stage_is a b = place a == place b
 
--- The bytes begin with the mark of that kind, and the body is what follows it.
-abbrev pub Marked : List ℕ → Kind → List ℕ → Type 0
-Marked bs kind body = (nat_lt (length bs) 2 ≡ false) × (kind_of bs ≡ Some kind) × (body ≡ drop 2 bs)
-
--- The bytes begin with no mark: they end inside it, or it is unknown.
-abbrev pub Unmarked : List ℕ → RecordFault → Type 0
-Unmarked bs e = cond (nat_lt (length bs) 2) (e ≡ f.Cut) ((e ≡ f.Unknown) × (kind_of bs ≡ None))
+-- The kind whose mark it is, or the refusal of a mark that no kind has.
+abbrev pub NamesKind : List ℕ → Result Kind RecordFault → Type 0
+NamesKind mark r = MatchResult r (λ kind. kind_of mark ≡ Some kind) (λ e. (kind_of mark ≡ None) × (e ≡ f.Unknown))

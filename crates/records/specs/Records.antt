@@ -86,25 +86,25 @@ two bs i = 256 * byte bs i + byte bs (i + 1)
 abbrev pub four : List ℕ → ℕ → ℕ
 four bs i = 16777216 * byte bs i + 65536 * byte bs (i + 1) + 256 * byte bs (i + 2) + byte bs (i + 3)
 
--- The record x, whose body takes n bytes, where they are all there.
-abbrev pub sized : List ℕ → ℕ → Item → Result Item RecordFault
-sized body n x = cond (nat_lt (length body) n) (Err f.Cut) (Ok x)
+-- What the body of each kind of record says; a byte that is not there counts as 0.
+abbrev pub item_of : Kind → List ℕ → Item
+item_of k.Open body = open_day (two body 0)
+item_of k.EnrolUnit body = enrol_unit (byte body 0) (byte body 1) (two body 2) (two body 4)
+item_of k.EnrolPool body = enrol_pool (byte body 0) (byte body 1) (two body 2)
+item_of k.EnrolPlant body = enrol_plant (byte body 0) (byte body 1)
+item_of k.OfferUnit body = offer_unit (byte body 0) (take 8 (drop 1 body))
+item_of k.OfferPool body = offer_pool (byte body 0) (byte body 1) (take (3 * byte body 1) (drop 2 body))
+item_of k.CloseOffers body = close_offers
+item_of k.Plan body = plan (byte body 0) (byte body 1) (byte body 2) (two body 3)
+item_of k.Want body = want (byte body 0) (byte body 1) (byte body 2) (four body 3)
+item_of k.Clear body = clear (byte body 0) (byte body 1)
+item_of k.ReadUnit body = read_unit (byte body 0) (byte body 1) (four body 2)
+item_of k.ReadPlant body = read_plant (byte body 0) (byte body 1) (four body 2)
+item_of k.CloseDay body = close_day
 
--- The body of each kind of record: how long it is, and what it says.
+-- The record of that kind, where its bytes are all there.
 abbrev pub body_of : Kind → List ℕ → Result Item RecordFault
-body_of k.Open body = sized body 2 (open_day (two body 0))
-body_of k.EnrolUnit body = sized body 6 (enrol_unit (byte body 0) (byte body 1) (two body 2) (two body 4))
-body_of k.EnrolPool body = sized body 4 (enrol_pool (byte body 0) (byte body 1) (two body 2))
-body_of k.EnrolPlant body = sized body 2 (enrol_plant (byte body 0) (byte body 1))
-body_of k.OfferUnit body = sized body 9 (offer_unit (byte body 0) (take 8 (drop 1 body)))
-body_of k.OfferPool body = cond (nat_lt (length body) 2) (Err f.Cut) (sized body (2 + 3 * byte body 1) (offer_pool (byte body 0) (byte body 1) (take (3 * byte body 1) (drop 2 body))))
-body_of k.CloseOffers body = Ok close_offers
-body_of k.Plan body = sized body 5 (plan (byte body 0) (byte body 1) (byte body 2) (two body 3))
-body_of k.Want body = sized body 7 (want (byte body 0) (byte body 1) (byte body 2) (four body 3))
-body_of k.Clear body = sized body 2 (clear (byte body 0) (byte body 1))
-body_of k.ReadUnit body = sized body 6 (read_unit (byte body 0) (byte body 1) (four body 2))
-body_of k.ReadPlant body = sized body 6 (read_plant (byte body 0) (byte body 1) (four body 2))
-body_of k.CloseDay body = Ok close_day
+body_of kind body = cond (nat_lt (2 + length body) (size (item_of kind body))) (Err f.Cut) (Ok (item_of kind body))
 
 -- What a mark's kind and the bytes after it say: an unknown mark is refused first, then one that is wrong for the stage, then a body that is not all there.
 abbrev pub by_kind : Stage → Option Kind → List ℕ → Result Item RecordFault

@@ -2,14 +2,15 @@
 ghost use Rattle.std.specs.Prelude.{◌≡◌};
 ghost use Rattle.records.specs.Marks.{record_number};
 
+// Each fault is the number that the refusal is known by.
 #[derive(Clone, Copy, PartialEq, Eq, Debug)]
 pub enum RecordFault {
     // The file ends inside a mark or a body.
-    Cut,
+    Cut = 30,
     // No record has that mark.
-    Unknown,
+    Unknown = 31,
     // The mark is wrong for the stage of the day.
-    Misplaced,
+    Misplaced = 32,
 }
 
 impl RecordFault {
@@ -17,10 +18,6 @@ impl RecordFault {
     pub fn number(self) -> u8
         ensures { result ≡ record_number self }
     {
-        match self {
-            RecordFault::Cut => 30,
-            RecordFault::Unknown => 31,
-            RecordFault::Misplaced => 32,
-        }
+        self as u8
     }
 }

@@ -1,7 +1,10 @@
 // The kinds of record, and the stage of the day that each is for.
 ghost use Rattle.std.specs.Prelude.{◌≡◌};
-ghost use Rattle.records.specs.Marks.{stage_for, stage_is};
+ghost use Rattle.records.specs.Marks.{NamesKind, stage_for};
 
+use crate::fault::RecordFault;
+
+// A type beside `Record`: a kind is known, and its stage looked at, before there is a record.
 #[derive(Clone, Copy)]
 pub enum Kind {
     Open,
@@ -19,7 +22,7 @@ pub enum Kind {
     CloseDay,
 }
 
-#[derive(Clone, Copy)]
+#[derive(Clone, Copy, PartialEq, Eq)]
 pub enum Stage {
     Unopened,
     Opening,
@@ -27,25 +30,51 @@ pub enum Stage {
     Closed,
 }
 
+// The kind that a mark names.
+impl TryFrom<[u8; 2]> for Kind {
+    type Error = RecordFault;
+
+    ghost try_from_gives = { NamesKind };
+
+    fn try_from(mark: [u8; 2]) -> Result<Kind, RecordFault> {
+        match mark {
+            [b'D', b'A'] => Ok(Kind::Open),
+            [b'E', b'U'] => Ok(Kind::EnrolUnit),
+            [b'E', b'P'] => Ok(Kind::EnrolPool),
+            [b'E', b'W'] => Ok(Kind::EnrolPlant),
+            [b'O', b'U'] => Ok(Kind::OfferUnit),
+            [b'O', b'P'] => Ok(Kind::OfferPool),
+            [b'C', b'O'] => Ok(Kind::CloseOffers),
+            [b'B', b'A'] => Ok(Kind::Plan),
+            [b'W', b'A'] => Ok(Kind::Want),
+            [b'C', b'L'] => Ok(Kind::Clear),
+            [b'R', b'U'] => Ok(Kind::ReadUnit),
+            [b'R', b'W'] => Ok(Kind::ReadPlant),
+            [b'C', b'D'] => Ok(Kind::CloseDay),
+            _ => Err(RecordFault::Unknown),
+        }
+    }
+}
+
 impl Kind {
-    // Whether a day at that stage takes records of this kind.
-    pub(crate) fn is_for(self, stage: Stage) -> bool
-        ensures { result ≡ stage_is (stage_for self) stage }
+    // The stage of the day that records of this kind are for.
+    pub(crate) fn stage(self) -> Stage
+        ensures { result ≡ stage_for self }
     {
         match self {
-            Kind::Open => matches!(stage, Stage::Unopened),
+            Kind::Open => Stage::Unopened,
             Kind::EnrolUnit
             | Kind::EnrolPool
             | Kind::EnrolPlant
             | Kind::OfferUnit
             | Kind::OfferPool
-            | Kind::CloseOffers => matches!(stage, Stage::Opening),
+            | Kind::CloseOffers => Stage::Opening,
             Kind::Plan
             | Kind::Want
             | Kind::Clear
             | Kind::ReadUnit
             | Kind::ReadPlant
-            | Kind::CloseDay => matches!(stage, Stage::Running),
+            | Kind::CloseDay => Stage::Running,
         }
     }
 }

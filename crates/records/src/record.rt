@@ -26,7 +26,7 @@ pub enum Record<'a> {
         seller: u8,
         prices: &'a [u8; 8],
     },
-    // A price byte and two power bytes for each step.
+    // A price byte and two power bytes for each step. `count` stays beside `steps`: as a byte it bounds them at 255, which the slice alone does not.
     OfferPool {
         seller: u8,
         count: u8,
@@ -64,6 +64,7 @@ pub enum Record<'a> {
 
 impl Record<'_> {
     // How many bytes the record takes, its mark among them.
+    // A table beside the widths of the readers: a const for each kind would be longer, and the proof holds both to one size.
     pub fn size(&self) -> usize
         ensures { result ≡ size (shown self.now) }
     {
@@ -73,7 +74,7 @@ impl Record<'_> {
             Record::EnrolPool { .. } => 6,
             Record::EnrolPlant { .. } => 4,
             Record::OfferUnit { .. } => 11,
-            Record::OfferPool { count, .. } => 4 + 3 * *count as usize,
+            Record::OfferPool { count, .. } => 4 + 3 * usize::from(*count),
             Record::CloseOffers => 2,
             Record::Plan { .. } => 7,
             Record::Want { .. } => 9,
