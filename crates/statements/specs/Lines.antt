@@ -1,5 +1,5 @@
--- How a statement is written: fields, lines, groups of lines, and what it means that a text is put at a place. Assumes nothing.
-use Rattle.std.specs.Prelude.{◌≡◌, ℕ, zero, suc, ◌+◌, ◌≤◌, cond, List, [], ◌∷◌, ◌++◌, map, length, take, drop, decimal, nat_lt, slice_index_or}
+-- How a statement is written: fields, lines, lines for each number, and what it means that a text is put on a page. Assumes nothing.
+use Rattle.std.specs.Prelude.{◌≡◌, ℕ, zero, suc, ◌+◌, ◌<◌, ◌≤◌, cond, List, [], ◌∷◌, ◌++◌, length, drop, decimal, nat_lt}
 use Rattle.std.specs.List.{flat_map}
 
 -- A field: a space and a decimal number.
@@ -19,20 +19,18 @@ unfoldable pub each : (ℕ → List ℕ) → ℕ → List ℕ
 each f zero = []
 each f (suc n) = each f n ++ f n
 
--- The text of what stands at a place of a list, which goes by the place too: none past its end.
-abbrev pub text_at : {X : Type 0} → (X → ℕ → List ℕ) → List X → ℕ → List ℕ
-text_at text xs i = slice_index_or (map text xs) i (λ _. []) i
+-- A text of so many bytes at most, put on a page, which is as long as the longest statement: where it fits, what was written before it stays, and the text follows.
+pub record Put (most : ℕ) (old text new : List ℕ) : Type 0 where
+  pub short : length text ≤ most
+  pub written : length old + length text ≤ 24950 → new ≡ old ++ text
 
--- The texts of a list, in rising place.
-abbrev pub group : {X : Type 0} → (X → ℕ → List ℕ) → List X → List ℕ
-group text xs = each (text_at text xs) (length xs)
+-- The lines of the entries of the numbers below n, in rising number.
+abbrev pub lines_of : {X : Type 0} → (X → List ℕ) → (ℕ → X) → ℕ → List ℕ
+lines_of text entry n = each (λ i. text (entry i)) n
 
--- A text put at a place ends so many bytes on. Where it fits, it stands there and what was written before it stays; what comes after it stays in any case.
-pub record Put (old : List ℕ) (at : ℕ) (text : List ℕ) (end : ℕ) (new : List ℕ) : Type 0 where
-  pub ends : end ≡ at + length text
-  pub written : end ≤ length old → take end new ≡ take at old ++ text
-  pub after : drop end new ≡ drop end old
-  pub long : length new ≡ length old
+-- All that is given to a number below n is its entry.
+abbrev pub Gives : {X : Type 0} → (ℕ → X → Type 0) → ℕ → (ℕ → X) → Type 0
+Gives {X} given n entry = (i : ℕ) (x : X) → i < n → given i x → x ≡ entry i
 
 -- A text given into a buffer that it fits: its length is answered, and the bytes after it stay.
 abbrev pub Given : List ℕ → List ℕ → ℕ → List ℕ → Type 0

@@ -2,12 +2,13 @@
 ghost use Rattle.std.specs.Prelude.{◌≡◌};
 ghost use Rattle.statements.specs.Faults.{statement_refusal};
 
+// Each refusal has the number that it is known by.
 #[derive(Clone, Copy, PartialEq, Eq, Debug)]
 pub enum StatementFault {
     // The period is above 95.
-    Period,
+    Period = 17,
     // The statement is longer than the buffer.
-    Long,
+    Long = 35,
 }
 
 impl StatementFault {
@@ -15,9 +16,6 @@ impl StatementFault {
     pub fn number(self) -> u8
         ensures { result ≡ statement_refusal self }
     {
-        match self {
-            StatementFault::Period => 17,
-            StatementFault::Long => 35,
-        }
+        self as u8
     }
 }

@@ -2,13 +2,12 @@
 
 #![tactic(auto)]
 
-mod bill;
 mod entries;
 mod entry;
 mod fault;
-mod put;
+mod page;
+mod period;
 mod statement;
-mod text;
 
 pub use fault::StatementFault;
 pub use statement::{STATEMENT_MOST, Statements};

@@ -1,13 +1,12 @@
 // A closed day's statements: of each period, and the total line that uses the day up.
+// A lent buffer and an array, no Vec: this crate has no heap.
 ghost use Rattle.std.specs.Prelude.{◌≡◌, ℕ, ◌≤◌, length};
 ghost use Rattle.day.specs.declared.book.Book.{Book};
-ghost use Rattle.statements.specs.Billed.{Whole, bill_text};
 ghost use Rattle.statements.specs.Statement.{statement_of, total_line, Stated};
 
-use crate::bill::{Bill, bill_of};
 use crate::fault::StatementFault;
-use crate::put::put_line;
-use crate::text::put_bill;
+use crate::page::Page;
+use crate::period::Period;
 use day::ClosedDay;
 
 // No statement is longer.
@@ -27,15 +26,6 @@ pub trait Statements {
         ensures { result ≡ total_line (held self) };
 }
 
-// How long a bill's text is.
-fn measured(period: u64, bill: &Bill) -> usize
-    requires { Whole bill.now }
-    ensures value { result ≡ length (bill_text period bill.now) }
-    ensures most { result ≤ STATEMENT_MOST }
-{
-    put_bill(&mut [], period, bill)
-}
-
 impl Statements for ClosedDay {
     ghost held = { λ d. d.book };
 
@@ -43,19 +33,22 @@ impl Statements for ClosedDay {
         if period > 95 {
             return Err(StatementFault::Period);
         }
-        let bill = bill_of(self, period);
-        if measured(period as u64, &bill) > buffer.len() {
+        let page = Period {
+            day: self,
+            number: period,
+        }
+        .statement();
+        if page.len() > buffer.len() {
             return Err(StatementFault::Long);
         }
-        Ok(put_bill(buffer, period as u64, &bill))
+        page.copy_to(buffer);
+        Ok(page.len())
     }
 
     fn total_line(self) -> [u8; 96] {
         let totals = self.totals();
-        let mut out = [b' '; 96];
-        let _end = put_line(
-            &mut out,
-            0,
+        let mut line = Page::new();
+        line.line(
             b'T',
             &[
                 totals.fees,
@@ -64,6 +57,8 @@ impl Statements for ClosedDay {
                 totals.refunds,
             ],
         );
+        let mut out = [b' '; 96];
+        line.copy_to(&mut out);
         out
     }
 }

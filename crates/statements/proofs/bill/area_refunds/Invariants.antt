@@ -1,6 +1,0 @@
-use Rattle.statements.specs.Billed.{refund_of}
-use Rattle.statements.proofs.Filled.{Begun}
-use Rattle.statements.proofs.bill.area_refunds.Given as goal
-
-abbrev pub invariant-loop-area : goal.invariant-loop-area
-invariant-loop-area l = Begun 8 l.area (refund_of l.day.book l.period) l.all
