@@ -1,11 +1,12 @@
 // The day statement program: makes a small market day by its calls and prints what it answers.
+// It spells its lines itself: so its stored output tests the day's public answers by another text than that of the crate `statements`.
 
 #![tactic(auto)]
 
 ghost use Rattle.std.specs.Prelude.{◌≡◌, ◌*◌};
 
 use anyhow::anyhow;
-use day::{ClosedDay, Fault, OpeningDay, RunningDay, tested_share};
+use day::{ClosedDay, Fault, OpeningDay, RunningDay, Totals, tested_share};
 
 const PRICES: [u8; 8] = [0, 10, 10, 20, 30, 30, 30, 30];
 
@@ -54,99 +55,110 @@ fn in_yuan(price: u8) -> u16
     10 * u16::from(price)
 }
 
-// A cleared round in which something was wanted, and the sellers called in it.
-fn print_round(rt: &HostRuntime, day: &ClosedDay, round: u8, period: u8) -> anyhow::Result<()> {
-    let wanted = day.wanted(round, period);
-    if wanted == 0 {
-        return Ok(());
-    }
-    let brought = day.brought(round, period);
-    match day.price(round, period) {
-        Some(price) => {
-            let yuan = in_yuan(price);
-            println!(rt; "C {period} {round} {wanted} {brought} {yuan}")?;
-        }
-        None => println!(rt; "C {period} {round} {wanted} {brought} -")?,
-    }
-    for seller in 0..64u8 {
-        let call = day.call(seller, round, period);
-        if call > 0 {
-            let fee = day.fee(seller, round, period);
-            println!(rt; "S {period} {round} {seller} {call} {fee}")?;
-        }
-    }
-    Ok(())
+// A period of the day, and where it is printed.
+#[derive(Clone, Copy)]
+struct Statement<'a> {
+    rt: &'a HostRuntime,
+    day: &'a ClosedDay,
+    period: u8,
 }
 
-// The areas that are charged, and then the plants.
-fn print_charges(rt: &HostRuntime, day: &ClosedDay, period: u8) -> anyhow::Result<()> {
-    for area in 0..8u8 {
-        let charge = day.charge(area, period);
-        if charge > 0 {
-            let (_, users) = day.split(area, period);
-            let uncarried = day.uncarried_charge(area, period);
-            println!(rt; "A {period} {area} {charge} {users} {uncarried}")?;
-        }
+impl Statement<'_> {
+    fn print(&self) -> anyhow::Result<()> {
+        self.print_round(0)?;
+        self.print_round(1)?;
+        self.print_charges()?;
+        self.print_penalties()
     }
-    for plant in 0..64u8 {
-        let charge = day.plant_charge(plant, period);
-        if charge > 0 {
-            println!(rt; "W {period} {plant} {charge}")?;
-        }
-    }
-    Ok(())
-}
 
-// The units that pay or are refunded, and then what no unit of an area is refunded.
-fn print_penalties(rt: &HostRuntime, day: &ClosedDay, period: u8) -> anyhow::Result<()> {
-    for unit in 0..64u8 {
-        let penalty = day.penalty(unit, period);
-        let refund = day.refund(unit, period);
-        if penalty > 0 || refund > 0 {
-            println!(rt; "U {period} {unit} {penalty} {refund}")?;
+    // A cleared round in which something was wanted, and the sellers called in it. By number, as the day's questions take it.
+    fn print_round(&self, round: u8) -> anyhow::Result<()> {
+        let Statement { rt, day, period } = *self;
+        let wanted = day.wanted(round, period);
+        if wanted == 0 {
+            return Ok(());
         }
-    }
-    for area in 0..8u8 {
-        let uncarried = day.uncarried_refund(area, period);
-        if uncarried > 0 {
-            println!(rt; "N {period} {area} {uncarried}")?;
+        let brought = day.brought(round, period);
+        match day.price(round, period).map(in_yuan) {
+            Some(yuan) => println!(rt; "C {period} {round} {wanted} {brought} {yuan}")?,
+            None => println!(rt; "C {period} {round} {wanted} {brought} -")?,
         }
+        for seller in 0..64u8 {
+            let call = day.call(seller, round, period);
+            if call > 0 {
+                let fee = day.fee(seller, round, period);
+                println!(rt; "S {period} {round} {seller} {call} {fee}")?;
+            }
+        }
+        Ok(())
     }
-    Ok(())
+
+    // The areas that are charged, and then the plants.
+    fn print_charges(&self) -> anyhow::Result<()> {
+        let Statement { rt, day, period } = *self;
+        for area in 0..8u8 {
+            let charge = day.charge(area, period);
+            if charge > 0 {
+                let (_, users) = day.split(area, period);
+                let uncarried = day.uncarried_charge(area, period);
+                println!(rt; "A {period} {area} {charge} {users} {uncarried}")?;
+            }
+        }
+        for plant in 0..64u8 {
+            let charge = day.plant_charge(plant, period);
+            if charge > 0 {
+                println!(rt; "W {period} {plant} {charge}")?;
+            }
+        }
+        Ok(())
+    }
+
+    // The units that pay or are refunded, and then what no unit of an area is refunded.
+    fn print_penalties(&self) -> anyhow::Result<()> {
+        let Statement { rt, day, period } = *self;
+        for unit in 0..64u8 {
+            let penalty = day.penalty(unit, period);
+            let refund = day.refund(unit, period);
+            if penalty > 0 || refund > 0 {
+                println!(rt; "U {period} {unit} {penalty} {refund}")?;
+            }
+        }
+        for area in 0..8u8 {
+            let uncarried = day.uncarried_refund(area, period);
+            if uncarried > 0 {
+                println!(rt; "N {period} {area} {uncarried}")?;
+            }
+        }
+        Ok(())
+    }
 }
 
 // The four sums of the day.
 fn print_totals(rt: &HostRuntime, day: &ClosedDay) -> anyhow::Result<()> {
-    let totals = day.totals();
-    let fees = totals.fees;
-    let charges = totals.charges;
-    let penalties = totals.penalties;
-    let refunds = totals.refunds;
+    let Totals {
+        fees,
+        charges,
+        penalties,
+        refunds,
+    } = day.totals();
     println!(rt; "T {fees} {charges} {penalties} {refunds}")?;
     Ok(())
 }
 
 fn print_day(rt: &HostRuntime, day: &ClosedDay) -> anyhow::Result<()> {
     for period in 0..96u8 {
-        print_round(rt, day, 0, period)?;
-        print_round(rt, day, 1, period)?;
-        print_charges(rt, day, period)?;
-        print_penalties(rt, day, period)?;
+        Statement { rt, day, period }.print()?;
     }
     print_totals(rt, day)
 }
 
-fn run(rt: &HostRuntime) -> anyhow::Result<()> {
+fn main(rt: HostRuntime) -> anyhow::Result<()> {
     match small_day() {
-        Ok(day) => print_day(rt, &day),
+        Ok(day) => print_day(&rt, &day),
         Err(fault) => {
             let number = fault.number();
             eprintln!(rt; "a call on the small day is refused by {number}")?;
             Err(anyhow!("refused"))
         }
     }
-}
-
-fn main(rt: HostRuntime) -> anyhow::Result<()> {
-    run(&rt)
 }

@@ -1,5 +1,6 @@
+pub mod Stages
+pub mod Records
 pub mod Turns
 pub mod Shown
 pub mod Accounts
 pub mod Feeds
-pub mod Extended

@@ -1,60 +1,41 @@
 -- What the parts of the file's reader promise; only private functions cite it. Assumes nothing.
-use Rattle.std.specs.Prelude.{◌≡◌, ℕ, ◌*◌, ◌≤◌, List, length, Some, Ok, Err, Result}
-use Rattle.records.specs.Records.{Item, open_day, enrol_unit, enrol_pool, enrol_plant, offer_unit, offer_pool, close_offers, plan, want, clear, read_unit, read_plant, close_day}
-use Rattle.day.specs.declared.book.Book.{Book}
+use Rattle.std.specs.Prelude.{◌≡◌, ℕ, ◌+◌, ◌*◌, ◌<◌, Bool, true, false, List, length, drop, Ok, Err, ◌≢◌}
+use Rattle.records.specs.Records.{Item, offer_pool, kind_for, size, said}
+use Rattle.records.specs.Marks.{stage_for, stage_is}
+use Rattle.records.specs.declared.kind.Stage.{Stage}
+use Rattle.records.specs.declared.fault.RecordFault.{RecordFault}
 use Rattle.dayfile.specs.declared.fault.FileFault.{FileFault}
-use Rattle.dayfile.specs.declared.turn.Turn.{Turn}
-use Rattle.dayfile.specs.declared.turn.Turn.TheVariants as turn
-use Rattle.dayfile.specs.Files.{opening, running, closed, Next, Refused, Taken, ReadFrom}
+use Rattle.dayfile.specs.declared.fault.Why.TheVariants as w
+use Rattle.dayfile.specs.Files.{State, Taken}
 
--- An enrolment or an offer; a pool's steps are all shown.
-abbrev pub IsEarly : Item → Type 0
-IsEarly (open_day n) = ⊥
-IsEarly (enrol_unit i a c m) = Unit {0}
-IsEarly (enrol_pool i a c) = Unit {0}
-IsEarly (enrol_plant j a) = Unit {0}
-IsEarly (offer_unit i ps) = Unit {0}
-IsEarly (offer_pool i n bs) = length bs ≡ 3 * n
-IsEarly close_offers = ⊥
-IsEarly (plan k i p w) = ⊥
-IsEarly (want k a p w) = ⊥
-IsEarly (clear k p) = ⊥
-IsEarly (read_unit i p e) = ⊥
-IsEarly (read_plant j p e) = ⊥
-IsEarly close_day = ⊥
+-- A pool's steps are all shown.
+abbrev pub AllShown : Item → Type 0
+AllShown (offer_pool i n bs) = length bs ≡ 3 * n
+AllShown _ = Unit {0}
 
--- A plan, a want, a clearing or a reading.
-abbrev pub IsLate : Item → Type 0
-IsLate (open_day n) = ⊥
-IsLate (enrol_unit i a c m) = ⊥
-IsLate (enrol_pool i a c) = ⊥
-IsLate (enrol_plant j a) = ⊥
-IsLate (offer_unit i ps) = ⊥
-IsLate (offer_pool i n bs) = ⊥
-IsLate close_offers = ⊥
-IsLate (plan k i p w) = Unit {0}
-IsLate (want k a p w) = Unit {0}
-IsLate (clear k p) = Unit {0}
-IsLate (read_unit i p e) = Unit {0}
-IsLate (read_plant j p e) = Unit {0}
-IsLate close_day = ⊥
+-- A record for a day at that stage which does not close it.
+abbrev pub IsFor : Stage → Item → Item → Type 0
+IsFor stage closing x = (stage_is (stage_for (kind_for x)) stage ≡ true) × AllShown x × (x ≢ closing)
 
--- One record given to an opening day, and to a running one.
-abbrev pub OpeningTurn : List ℕ → Book → Turn → Book → Type 0
-OpeningTurn bs b (turn.On n) b' = Next bs (opening b) n (opening b')
-OpeningTurn bs b turn.Closes b' = Next bs (opening b) 2 (running b')
-OpeningTurn bs b (turn.Stops why) b' = Refused bs (opening b) why × (b' ≡ b)
+-- Whether the record x closes a stage.
+abbrev pub Closes : Bool → Item → Item → Type 0
+Closes true x closing = x ≡ closing
+Closes false x closing = x ≢ closing
 
-abbrev pub RunningTurn : List ℕ → Book → Turn → Book → Type 0
-RunningTurn bs b (turn.On n) b' = Next bs (running b) n (running b')
-RunningTurn bs b turn.Closes b' = Next bs (running b) 2 (closed b')
-RunningTurn bs b (turn.Stops why) b' = Refused bs (running b) why × (b' ≡ b)
+-- The record x stands at the place, for a day at that stage.
+pub record Stands (stage : Stage) (bs : List ℕ) (at : ℕ) (x : Item) : Type 0 where
+  pub before : at < length bs
+  pub says : said stage (drop at bs) ≡ Ok x
 
--- The records of a stage, up to the one that closes it.
-abbrev pub OpeningRead : List ℕ → ℕ → Book → Result ℕ FileFault → Book → Type 0
-OpeningRead bs from b (Ok at) b' = Taken bs from (opening b) at (running b') × (at ≤ length bs)
-OpeningRead bs from b (Err f) b' = ReadFrom bs from (opening b) (Some f) (opening b')
+-- No record stands there: the file ends there, or none can be read.
+pub data Unread (stage : Stage) (bs : List ℕ) (at : ℕ) (f : FileFault) : Type 0 where
+  ended : at ≡ length bs → f.place ≡ at → f.why ≡ w.Unclosed → Unread stage bs at f
+  unreadable : {fault : RecordFault} → at < length bs → said stage (drop at bs) ≡ Err fault → f.place ≡ at → f.why ≡ w.Record fault → Unread stage bs at f
 
-abbrev pub RunningRead : List ℕ → ℕ → Book → Result ℕ FileFault → Book → Type 0
-RunningRead bs from b (Ok at) b' = Taken bs from (running b) at (closed b') × (at ≤ length bs)
-RunningRead bs from b (Err f) b' = ReadFrom bs from (running b) (Some f) (running b')
+-- The records up to the one that closes the stage are taken, and the reading stands after that one.
+pub record ToClosing (stage : Stage) (closing : Item) (bs : List ℕ) (from : ℕ) (first last : State) (rest : List ℕ) (end : ℕ) : Type 0 where
+  pub place : ℕ
+  pub taken : Taken bs from first place last
+  pub stands : Stands stage bs place closing
+  pub same : rest ≡ bs
+  pub past : end ≡ place + size closing

@@ -6,7 +6,7 @@ ghost use Rattle.dayfile.specs.declared.fault.Why.TheVariants as why;
 use day::Fault;
 use records::RecordFault;
 
-#[derive(Clone, Copy)]
+#[derive(Clone, Copy, PartialEq, Eq, Debug)]
 pub enum Why {
     // No record can be read there.
     Record(RecordFault),
@@ -37,16 +37,25 @@ impl Why {
     pub fn number(self) -> u8
         ensures { result ≡ why_number self }
     {
+        // A match: the faults within have numbers of their own.
         match self {
             Why::Record(fault) => fault.number(),
             Why::Unclosed => 33,
             Why::Day(fault) => fault.number(),
         }
     }
+
+    // The refusal of what stands at a place.
+    pub(crate) fn at(self, place: usize) -> FileFault
+        ensures place { result.place ≡ place }
+        ensures why { result.why ≡ self }
+    {
+        FileFault { place, why: self }
+    }
 }
 
 // A refusal, with the place of the record's mark; of a file that ends too early, with its length.
-#[derive(Clone, Copy)]
+#[derive(Clone, Copy, PartialEq, Eq, Debug)]
 pub struct FileFault {
     pub place: usize,
     pub why: Why,

@@ -2,15 +2,19 @@
 
 #![tactic(auto)]
 
+mod closed;
 mod fault;
-mod give;
+mod file;
+mod next;
+mod opening;
 mod program;
 mod reached;
 mod read;
+mod running;
+mod staged;
 mod steps;
-mod turn;
 
 pub use fault::{FileFault, Why};
 pub use program::{Printed, print};
-pub use reached::{Outcome, Reached};
+pub use reached::{Reached, RefusedFile};
 pub use read::read_file;

@@ -1,10 +1,10 @@
 // The whole work of the day statement program but for reading and writing: a file's bytes to what is printed.
-ghost use Rattle.std.specs.Prelude.{◌≡◌, ℕ, ◌≤◌, ◌++◌, length, IfOk, vec_len, OnOk};
+ghost use Rattle.std.specs.Prelude.{◌≡◌, ℕ, ◌≤◌, ◌++◌, ◌==◌, length, position, IfOk, vec_len, OnOk};
 ghost use Rattle.statements.specs.Lines.{each};
 ghost use Rattle.statements.specs.Statement.{statement_of};
-ghost use Rattle.dayfile.specs.Printed.{X_line, listing, Prints, FirstLine};
+ghost use Rattle.dayfile.specs.Printed.{X_line, listing, PrintsAs, FirstLine};
 
-use crate::reached::{Outcome, Reached};
+use crate::reached::RefusedFile;
 use crate::read::read_file;
 use day::ClosedDay;
 use statements::{STATEMENT_MOST, Statements};
@@ -13,19 +13,27 @@ use std::alloc::{AllocError, Global};
 // A longer file is refused by 34.
 const FILE_MOST: usize = 65_535;
 
-// What a file gives: the text to print, and whether the file was refused.
+// What a file gives to print: its day's statements, or the line of its refusal.
+// No Result: both are text to print, and `print`'s own Result tells of want of memory.
 #[derive(Drop)]
-pub struct Printed {
-    pub text: Vec<u8>,
-    pub refused: bool,
+pub enum Printed {
+    Statements(Vec<u8>),
+    Refusal(Vec<u8>),
 }
 
-// The line of a refused file.
+// The line of a refused file. No Display of FileFault: a file that is too long, number 34, has no FileFault.
+// The heap is handed on as it is: a struct around it would hold nothing else.
 fn refusal_line(heap: Global, place: usize, number: u8) -> Result<Vec<u8>, AllocError>
     ensures { IfOk result (λ v. v.items ≡ X_line place number) }
 {
-    let line = format!(in heap; "X {place} {number}\n")?;
-    Vec::from_slice(heap, line.as_bytes())
+    Ok(format!(in heap; "X {place} {number}\n")?.into_bytes())
+}
+
+// Where the first line feed stands.
+fn line_feed(bytes: &[u8]) -> Option<usize>
+    ensures { result ≡ position (λ byte. byte == 10) bytes.now }
+{
+    bytes.iter().position(|byte| *byte == b'\n')
 }
 
 // How long the first line is, its line feed among it; all of the bytes where there is none.
@@ -33,15 +41,10 @@ fn first_line(bytes: &[u8]) -> usize
     ensures within { result ≤ length bytes.now }
     ensures line { FirstLine bytes.now result }
 {
-    for (i, byte) in bytes.iter().enumerate() {
-        if *byte == b'\n' {
-            return i + 1;
-        }
-    }
-    bytes.len()
+    line_feed(bytes).map_or(bytes.len(), |feed| feed + 1)
 }
 
-// Adds the statement of a period to the text.
+// Adds the statement of a period to the text. The page is lent, as `statement` asks: it has no heap to make one.
 fn add_period(
     day: &ClosedDay,
     period: u8,
@@ -51,10 +54,8 @@ fn add_period(
     requires { (period ≤ 95) × (24950 ≤ length page.old) }
     ensures { OnOk result (text.new.items ≡ text.old.items ++ statement_of day.now.book period) }
 {
-    match day.statement(period, page) {
-        Ok(long) => text.extend_from_slice(&page[0..long]),
-        Err(_) => unreachable(),
-    }
+    let long = day.statement(period, page).unwrap();
+    text.extend_from_slice(&page[..long])
 }
 
 // The statements of all periods, in order.
@@ -76,32 +77,23 @@ fn list(heap: Global, day: ClosedDay) -> Result<Vec<u8>, AllocError>
     let mut text = periods(heap, &day)?;
     let total = day.total_line();
     let long = first_line(&total);
-    text.extend_from_slice(&total[0..long])?;
+    text.extend_from_slice(&total[..long])?;
     Ok(text)
 }
 
 // What the program prints of a file's bytes.
 pub fn print(heap: Global, bytes: &[u8]) -> Result<Printed, AllocError>
-    ensures { IfOk result (λ p. Prints bytes.now p.text.items p.refused) }
+    ensures { IfOk result (PrintsAs bytes.now) }
 {
     if bytes.len() > FILE_MOST {
-        return Ok(Printed {
-            text: refusal_line(heap, FILE_MOST, 34)?,
-            refused: true,
-        });
+        return Ok(Printed::Refusal(refusal_line(heap, FILE_MOST, 34)?));
     }
-    let Outcome { reached, refusal } = read_file(bytes);
-    match refusal {
-        Some(fault) => Ok(Printed {
-            text: refusal_line(heap, fault.place, fault.why.number())?,
-            refused: true,
-        }),
-        None => match reached {
-            Reached::Closed(day) => Ok(Printed {
-                text: list(heap, day)?,
-                refused: false,
-            }),
-            _ => unreachable(),
-        },
+    match read_file(bytes) {
+        Ok(day) => Ok(Printed::Statements(list(heap, day)?)),
+        Err(RefusedFile { fault, .. }) => Ok(Printed::Refusal(refusal_line(
+            heap,
+            fault.place,
+            fault.why.number(),
+        )?)),
     }
 }

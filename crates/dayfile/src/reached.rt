@@ -3,6 +3,7 @@ use crate::fault::FileFault;
 use day::{ClosedDay, OpeningDay, RunningDay};
 
 // The day as the records taken have left it.
+// The day itself, no Box: a refusal must not fail for want of memory. No Option: each stage's day is a type of its own.
 #[derive(Drop)]
 pub enum Reached {
     Unopened,
@@ -11,10 +12,9 @@ pub enum Reached {
     Closed(ClosedDay),
 }
 
-// How the reading of a file ended: the day as the records taken have left it, and the refusal of the next one, if any.
-// Without a refusal the day is closed.
+// A file that was not read to the end of a closed day: the day as the records taken have left it, and the refusal of the next one.
 #[derive(Drop)]
-pub struct Outcome {
+pub struct RefusedFile {
     pub reached: Reached,
-    pub refusal: Option<FileFault>,
+    pub fault: FileFault,
 }

@@ -1,125 +1,89 @@
 // A day file, read from its first record to its end or its first refusal.
-ghost use Rattle.std.specs.Prelude.{◌≡◌, ℕ, ◌≤◌, length};
-ghost use Rattle.dayfile.specs.Files.{Read, ReadFrom, Stops, state_of, opening, running, closed};
-ghost use Rattle.dayfile.specs.Parts.{OpeningRead, RunningRead};
+ghost use Rattle.std.specs.Prelude.{◌≡◌, ℕ, Some, None, MatchResult};
+ghost use Rattle.dayfile.specs.Files.{Read, ReadFrom, Taken, Stops, state_of, unopened, opening, closed};
+ghost use Rattle.day.specs.Reading.{opened};
+ghost use Rattle.dayfile.specs.Parts.{ToClosing};
 ghost use Rattle.dayfile.specs.Account.{FileLaw};
 ghost use Rattle.day.specs.declared.book.Book.{Book};
 
 use crate::fault::{FileFault, Why};
-use crate::reached::{Outcome, Reached};
-use crate::turn::{Turn, open_day, opening_turn, running_turn};
-use day::{OpeningDay, RunningDay};
-use records::{RecordFault, Stage, read_record};
+use crate::file::File;
+use crate::reached::{Reached, RefusedFile};
+use crate::staged::{ReadsOn, TakesRecords};
+use day::{ClosedDay, OpeningDay, tested_share};
+use money::share::Share;
+use records::{Record, Stage};
 
-// Gives the records from `from` on to the day, up to the one that closes the offers: the place after it.
-fn read_opening(bytes: &[u8], from: usize, day: &mut OpeningDay) -> Result<usize, FileFault>
-    requires { from ≤ length bytes.now }
-    ensures { OpeningRead bytes.now from day.old.book result day.new.book }
+// The share with which the first record opens the day, and the file after it.
+fn read_share(file: File<'_>) -> Result<(File<'_>, Share), FileFault>
+    ensures { MatchResult result (λ done. Taken file.entry.bytes.now file.entry.place unopened done.0.place (opening (opened done.1)) × (done.0.bytes.now ≡ file.entry.bytes.now)) (λ fault. Stops file.entry.bytes.now file.entry.place unopened (Some fault)) }
 {
-    let mut at = from;
+    let record = file.next(Stage::Unopened)?;
+    let Record::Open { share } = record else {
+        unreachable!();
+    };
+    let place = file.place();
+    let share = tested_share(share).map_err(|fault| Why::from(fault).at(place))?;
+    Ok((file.past(record.size()), share))
+}
+
+// Gives the records to the day, up to the one that closes its stage: the file after that one.
+fn take_records<'a, D: TakesRecords>(file: File<'a>, day: &mut D) -> Result<File<'a>, FileFault>
+    ensures { MatchResult result (λ rest. ToClosing D.STAGE D.closing file.entry.bytes.now file.entry.place (D.state day.old) (D.state day.new) rest.bytes.now rest.place) (λ fault. ReadFrom file.entry.bytes.now file.entry.place (D.state day.old) (Some fault) (D.state day.new)) }
+{
+    let mut left = file;
+    // A loop: how far each step goes is known only when its record is read, and the day may stop it.
     loop {
-        if at == bytes.len() {
-            return Err(FileFault {
-                place: at,
-                why: Why::Unclosed,
-            });
+        let record = left.next(D::STAGE)?;
+        let after = left.past(record.size());
+        if D::is_closed_by(&record) {
+            return Ok(after);
         }
-        match opening_turn(&bytes[at..], day) {
-            Turn::On(long) => at += long,
-            Turn::Closes => return Ok(at + 2),
-            Turn::Stops(why) => return Err(FileFault { place: at, why }),
-        }
+        let place = left.place();
+        day.give(record)
+            .map_err(|fault| Why::from(fault).at(place))?;
+        left = after;
     }
 }
 
-// Gives the records from `from` on to the day, up to the one that closes the day: the place after it.
-fn read_running(bytes: &[u8], from: usize, day: &mut RunningDay) -> Result<usize, FileFault>
-    requires { from ≤ length bytes.now }
-    ensures { RunningRead bytes.now from day.old.book result day.new.book }
+// Gives a day the records of its stage, and reads on with the day at its next.
+pub(crate) fn read_stage<D: TakesRecords>(
+    file: File<'_>,
+    mut day: D,
+) -> Result<ClosedDay, RefusedFile>
+    ensures { MatchResult result (λ closed_day. ReadFrom file.entry.bytes.now file.entry.place (D.state day) None (closed closed_day.book)) (λ refused. ReadFrom file.entry.bytes.now file.entry.place (D.state day) (Some refused.fault) (state_of refused.reached)) }
 {
-    let mut at = from;
-    loop {
-        if at == bytes.len() {
-            return Err(FileFault {
-                place: at,
-                why: Why::Unclosed,
-            });
-        }
-        match running_turn(&bytes[at..], day) {
-            Turn::On(long) => at += long,
-            Turn::Closes => return Ok(at + 2),
-            Turn::Stops(why) => return Err(FileFault { place: at, why }),
-        }
-    }
-}
-
-// What follows the closing of the day: nothing, or a refusal.
-fn after_close(bytes: &[u8], at: usize) -> Option<FileFault>
-    requires { at ≤ length bytes.now }
-    ensures { (b : Book) → Stops bytes.now at (closed b) result }
-{
-    if at == bytes.len() {
-        return None;
-    }
-    match read_record(&bytes[at..], Stage::Closed) {
-        Err(fault) => Some(FileFault {
-            place: at,
-            why: fault.into(),
+    // A match: both answers use the day up, and a closure for `map_err` would have moved it already.
+    match take_records(file, &mut day) {
+        Ok(rest) => day.close().read_on(rest),
+        Err(fault) => Err(RefusedFile {
+            reached: day.reached(),
+            fault,
         }),
-        Ok(_) => unreachable(),
     }
 }
 
-// Reads on from `from` with a running day.
-fn from_running(bytes: &[u8], from: usize, mut day: RunningDay) -> Outcome
-    requires { from ≤ length bytes.now }
-    ensures { ReadFrom bytes.now from (running day.book) result.refusal (state_of result.reached) }
+// Nothing may follow the closing of the day.
+pub(crate) fn expect_end(file: File<'_>) -> Result<(), FileFault>
+    ensures { (b : Book) → MatchResult result (λ _. Stops file.entry.bytes.now file.entry.place (closed b) None) (λ fault. Stops file.entry.bytes.now file.entry.place (closed b) (Some fault)) }
 {
-    match read_running(bytes, from, &mut day) {
-        Ok(at) => Outcome {
-            reached: Reached::Closed(day.close()),
-            refusal: after_close(bytes, at),
-        },
-        Err(fault) => Outcome {
-            reached: Reached::Running(day),
-            refusal: Some(fault),
-        },
+    if file.is_read() {
+        return Ok(());
     }
+    Err(file.next(Stage::Closed).unwrap_err())
 }
 
-// Reads on from `from` with an opening day.
-fn from_opening(bytes: &[u8], from: usize, mut day: OpeningDay) -> Outcome
-    requires { from ≤ length bytes.now }
-    ensures { ReadFrom bytes.now from (opening day.book) result.refusal (state_of result.reached) }
-{
-    match read_opening(bytes, from, &mut day) {
-        Ok(at) => from_running(bytes, at, day.close_offers()),
-        Err(fault) => Outcome {
-            reached: Reached::Opening(day),
-            refusal: Some(fault),
-        },
-    }
-}
-
-// Reads a whole file, up to its end or the first record that is refused.
-pub fn read_file(bytes: &[u8]) -> Outcome
-    ensures read { Read bytes.now result.refusal (state_of result.reached) }
+// Reads a whole file: the closed day, or the first record that is refused.
+pub fn read_file(bytes: &[u8]) -> Result<ClosedDay, RefusedFile>
+    ensures read { MatchResult result (λ day. Read bytes.now None (closed day.book)) (λ refused. Read bytes.now (Some refused.fault) (state_of refused.reached)) }
     ensures law { FileLaw }
 {
-    if bytes.is_empty() {
-        return Outcome {
+    // A match: for a `?`, a `map_err` would build the same refusal in a closure, which is no plainer.
+    match read_share(File::new(bytes)) {
+        Ok((file, share)) => OpeningDay::open(share).read_on(file),
+        Err(fault) => Err(RefusedFile {
             reached: Reached::Unopened,
-            refusal: Some(FileFault {
-                place: 0,
-                why: Why::Unclosed,
-            }),
-        };
-    }
-    match open_day(bytes) {
-        Ok(day) => from_opening(bytes, 4, day),
-        Err(why) => Outcome {
-            reached: Reached::Unopened,
-            refusal: Some(FileFault { place: 0, why }),
-        },
+            fault,
+        }),
     }
 }

@@ -1,28 +1,23 @@
 // The steps of a pool's offer, read from the file's bytes.
-ghost use Rattle.std.specs.Prelude.{◌≡◌, ◌+◌, ◌*◌, ◌≤◌, length, take};
-ghost use Rattle.dayfile.specs.Files.{step_at, steps_in};
+ghost use Rattle.std.specs.Prelude.{◌≡◌, ◌/◌, ◌≤◌, length};
+ghost use Rattle.dayfile.specs.Files.{steps_in};
 
+use arrayvec::ArrayVec;
 use sellers::step::Step;
 
-// The step whose price and power stand at a place.
-fn step_at(shown: &[u8], at: usize) -> Step
-    requires { at + 3 ≤ length shown.now }
-    ensures { result ≡ step_at shown.now at }
+// The steps that the bytes show, three bytes each: as many as a byte can count.
+// No Vec: reading a file would then fail for want of memory.
+pub(crate) fn steps_in(shown: &[u8]) -> ArrayVec<Step, 255>
+    requires { length shown.now ≤ 765 }
+    ensures { result.items ≡ steps_in (length shown.now / 3) shown.now }
 {
-    Step {
-        price: shown[at],
-        power: u16::from_be_bytes([shown[at + 1], shown[at + 2]]),
-    }
-}
-
-// The steps that the bytes show, three bytes each: the first `count` of an array that holds as many as a byte can count.
-pub(crate) fn steps_in(count: u8, shown: &[u8]) -> [Step; 255]
-    requires { 3 * count ≤ length shown.now }
-    ensures { (length result ≡ 255) × (take count result ≡ steps_in count shown.now) }
-{
-    let mut steps = [Step { price: 0, power: 0 }; 255];
-    for j in 0..count as usize {
-        steps[j] = step_at(shown, 3 * j);
+    let (triples, _) = shown.as_chunks::<3>();
+    let mut steps = ArrayVec::new();
+    for [price, high, low] in triples {
+        steps.push(Step {
+            price: *price,
+            power: u16::from_be_bytes([*high, *low]),
+        });
     }
     steps
 }

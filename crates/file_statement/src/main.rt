@@ -10,25 +10,6 @@ use std::io::{Read, Write};
 // One byte more than a file may have, which is enough to refuse it.
 const KEPT: u64 = 65_536;
 
-// What the program's arguments ask for.
-enum Request {
-    Statements,
-    Help,
-    Unknown,
-}
-
-fn read_request(rt: &HostRuntime) -> anyhow::Result<Request> {
-    let mut args = env::args(rt)?;
-    let _name = args.next();
-    Ok(match args.next() {
-        None => Request::Statements,
-        Some(word) => match word.as_str() {
-            "--help" | "-h" => Request::Help,
-            _ => Request::Unknown,
-        },
-    })
-}
-
 fn print_usage(rt: &HostRuntime) -> anyhow::Result<()> {
     eprintln!(rt; "usage: file_statement < FILE")?;
     eprintln!(rt; "Reads a day file on standard input: the calls of one market day, as records.")?;
@@ -48,32 +29,30 @@ fn read_input(rt: &HostRuntime) -> anyhow::Result<Vec<u8>> {
     Ok(bytes)
 }
 
-// Prints what the file on standard input gives: true where it is refused.
-fn state(rt: &HostRuntime) -> anyhow::Result<bool> {
+// Prints what the file on standard input gives, and fails where it is refused.
+fn print_file(rt: &HostRuntime) -> anyhow::Result<()> {
     let bytes = read_input(rt)?;
-    let Printed { text, refused } = print(rt.alloc(), bytes.as_slice())?;
-    rt.stdout().write_all(text.as_slice())?;
-    Ok(refused)
-}
-
-// True where the program has to end with status 1.
-fn run(rt: &HostRuntime) -> anyhow::Result<bool> {
-    match read_request(rt)? {
-        Request::Statements => state(rt),
-        Request::Help => {
-            print_usage(rt)?;
-            Ok(false)
+    match print(rt.alloc(), bytes.as_slice())? {
+        Printed::Statements(text) => {
+            rt.stdout().write_all(text.as_slice())?;
+            Ok(())
         }
-        Request::Unknown => {
-            print_usage(rt)?;
-            Ok(true)
+        Printed::Refusal(line) => {
+            rt.stdout().write_all(line.as_slice())?;
+            Err(anyhow!("refused"))
         }
     }
 }
 
 fn main(rt: HostRuntime) -> anyhow::Result<()> {
-    if run(&rt)? {
-        return Err(anyhow!("refused"));
+    let mut args = env::args(&rt)?;
+    let _name = args.next();
+    let Some(word) = args.next() else {
+        return print_file(&rt);
+    };
+    print_usage(&rt)?;
+    match word.as_str() {
+        "--help" | "-h" => Ok(()),
+        _ => Err(anyhow!("refused")),
     }
-    Ok(())
 }

@@ -1,9 +1,6 @@
-use Rattle.std.proofs.Common.{arith}
-use Rattle.dayfile.proofs.Feeds.{first_feed, no_feed}
+use Rattle.std.proofs.Common.{length, position, ap, ◌∙◌, rules}
+use Rattle.dayfile.proofs.Feeds.{feeds, feed_place, past_feed}
 use Rattle.dayfile.proofs.program.first_line.Goals as goal
 
-pub returns-then-byte-eq10 : goal.returns-then-byte-eq10
-returns-then-byte-eq10 c = record { within = omega arith; line = first_feed c.args.bytes.now c.loop-i.i c.loop-i.invariant c.if-byte-eq10.true }
-
-pub returns : goal.returns
-returns c = record { within = omega arith; line = no_feed c.args.bytes.now c.loop-i.i (omega arith) c.loop-i.invariant }
+pub returns-clause-line : goal.returns-clause-line
+returns-clause-line c = λ text rest none e. past_feed c.line_feed.result _ c.map_or.result _ c.map_or.ensures (λ x q. search rules) (length text) (c.line_feed.ensures ∙ (ap (position feeds) e ∙ feed_place text rest none))

@@ -1,5 +1,4 @@
 use Rattle.std.proofs.Common.{◌++◌, sym, ap, ◌∙◌, arith}
-use Rattle.std.proofs.lemmas.Result.{err_from_is_err_and}
 use Rattle.statements.specs.Lines.{each}
 use Rattle.statements.specs.Statement.{statement_of}
 use Rattle.statements.proofs.Groups.{each_none, each_more}
@@ -7,9 +6,6 @@ use Rattle.dayfile.proofs.program.periods.Goals as goal
 
 pub loop-period-init : goal.loop-period-init
 loop-period-init c = (c.new-text.ensures.items ∙ each_none (statement_of c.args.day.now.book), c.in_ok-page.ensures.len)
-
-pub returns-in_err-add_period : goal.returns-in_err-add_period
-returns-in_err-add_period c = let p = err_from_is_err_and c.from_residual-in_err-add_period.result c.from_residual-in_err-add_period.ensures.1 in rw p.1 tt
 
 pub loop-period-preserved : goal.loop-period-preserved
 loop-period-preserved c =

@@ -1,6 +1,6 @@
-use Rattle.std.proofs.Common.{◌≡◌, length, take}
-use Rattle.dayfile.specs.Files.{steps_in}
+use Rattle.std.proofs.Common.{◌≡◌, map, take}
+use Rattle.dayfile.specs.Files.{step_at}
 use Rattle.dayfile.proofs.steps.steps_in.Given as goal
 
-abbrev pub invariant-loop-j : goal.invariant-loop-j
-invariant-loop-j l = (length l.steps ≡ 255) × (take l.j l.steps ≡ steps_in l.j l.shown)
+abbrev pub invariant-loop-price : goal.invariant-loop-price
+invariant-loop-price l = l.steps.items ≡ map (λ t. step_at t 0) (take l.price-index l.triples)
