@@ -3,6 +3,5 @@ pub mod Cheap
 pub mod Only
 pub mod Standing
 pub mod Reweighed
-pub mod Placed
 pub mod Halved
 pub mod Calling

@@ -33,7 +33,7 @@ pub(crate) fn call_at<S: Seller>(sellers: &Row<'_, S>, price: u8, brought: u32) 
 {
     let low = below(sellers, price);
     let rooms = between(&low, &powers(sellers, price));
-    let rest = u64::from(brought) - Row::from(&low).total(|power| *power);
+    let rest = u64::from(brought) - Row::from(&low).total();
     let handed = share_tenths(sellers, &rooms, rest);
     joined(&low, &handed.parts)
 }

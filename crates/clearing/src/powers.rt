@@ -43,5 +43,5 @@ pub(crate) fn below<S: Seller>(sellers: &Row<'_, S>, price: u8) -> [u32; 64]
 pub(crate) fn offered<S: Seller>(sellers: &Row<'_, S>, price: u8) -> u64
     ensures { result ≡ together (curves S.Seller.power sellers.now) (min price 60) }
 {
-    sellers.total(|seller| seller.curve(price))
+    Row::from(&powers(sellers, price)).total()
 }

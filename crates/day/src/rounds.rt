@@ -51,7 +51,7 @@ fn bidding(who: Enrolled, base: Power, called: u32) -> Option<Rest<Bidder>>
 pub(crate) fn wanted(wants: &[u32; 8]) -> u64
     ensures { result ≡ total (at_place wants.now) }
 {
-    Row::from(wants).total(|want| *want)
+    Row::from(wants).total()
 }
 
 // The areas as parties, by their wants.

@@ -18,3 +18,12 @@ impl<P: Party> Party for Option<P> {
         self.as_ref().map_or(1, |party| party.weight())
     }
 }
+
+// A plain number weighs itself, so that a row of powers or of wants has a total.
+impl Party for u32 {
+    ghost heft = { λ n. n };
+
+    fn weight(&self) -> u32 {
+        *self
+    }
+}

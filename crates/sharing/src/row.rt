@@ -1,7 +1,8 @@
 // A row of parties: at most 64, numbered 0 to 63 by their places.
-ghost use Rattle.std.specs.Prelude.{◌≡◌, ℕ, ◌<◌, ◌≤◌, length, MatchOption};
-ghost use Rattle.std.specs.Fn.{FnReturnsAt};
+ghost use Rattle.std.specs.Prelude.{◌≡◌, ◌<◌, ◌≤◌, length, MatchOption};
 ghost use Rattle.sharing.specs.Places.{total, by_place};
+
+use super::party::Party;
 
 #[derive(Drop)]
 pub struct Row<'a, T> {
@@ -26,13 +27,18 @@ impl<'a, T> Row<'a, T> {
     {
         self.items
     }
+}
 
-    // The total over the places of the figure that the calls give.
-    pub fn total<F: Fn(&T) -> u32>(&self, figure: F) -> u64
-        requires { F.IsAlwaysCallable figure }
-        ensures { (f : T → ℕ) → ((x : T) (r : ℕ) → FnReturnsAt F.Fn figure x r → r ≡ f x) → result ≡ total (by_place f self.now.items.now) }
+// No closure for the figure: a call that takes one has to ask that it may be called, and a public call asks nothing.
+impl<P: Party> Row<'_, P> {
+    // What the parties weigh together.
+    pub fn total(&self) -> u64
+        ensures { result ≡ total (by_place P.heft self.now.items.now) }
     {
-        self.items.iter().map(|item| u64::from(figure(item))).sum()
+        self.items
+            .iter()
+            .map(|party| u64::from(party.weight()))
+            .sum()
     }
 }
 

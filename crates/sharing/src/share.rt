@@ -63,7 +63,7 @@ pub fn share_out<P: Party>(amount: u64, parties: &Row<'_, P>) -> Shares
     ensures adds { total (at_place result.parts) + result.uncarried ≡ amount }
     ensures weightless { (i : ℕ) → weights P.heft parties.now i ≡ 0 → at_place result.parts i ≡ 0 }
 {
-    let weight = parties.total(|party| party.weight());
+    let weight = parties.total();
     if weight == 0 {
         return Shares {
             parts: [0; 64],

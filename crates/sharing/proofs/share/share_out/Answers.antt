@@ -11,7 +11,7 @@ use Rattle.sharing.proofs.share.share_out.Goals as goal
 
 pub returns-then-weight-eq0 : goal.returns-then-weight-eq0
 returns-then-weight-eq0 g c =
-    let none : total (weights g.P.Party.heft c.args.parties.now) ≡ 0 = sym (c.total-weight.ensures g.P.Party.heft (λ x r call. search rules)) ∙ c.if-weight-eq0.true in
+    let none : total (weights g.P.Party.heft c.args.parties.now) ≡ 0 = sym (c.total-weight.ensures) ∙ c.if-weight-eq0.true in
     record {
       shared = record { carried = λ pos. absurd (omega arith); weightless = λ _. (zeros 64, refl) };
       only = λ pos. absurd (omega arith);
@@ -26,7 +26,7 @@ added-requires g c =
     let w = weights g.P.Party.heft row in
     let r = c.round_down-list.ensures in
     let h = c.hand_out-odd.ensures in
-    let pos : 0 < total w = let e = c.total-weight.ensures g.P.Party.heft (λ x r call. search rules) in let n = c.if-weight-eq0.false in omega arith in
+    let pos : 0 < total w = let e = c.total-weight.ensures in let n = c.if-weight-eq0.false in omega arith in
     let apart = r.rounded.below.apart in
     record {
       fits = λ i l.
@@ -41,7 +41,7 @@ returns g c =
     let a = c.args.amount in
     let r = c.round_down-list.ensures in
     let h = c.hand_out-odd.ensures in
-    let pos : 0 < total w = let e = c.total-weight.ensures g.P.Party.heft (λ x r call. search rules) in let n = c.if-weight-eq0.false in omega arith in
+    let pos : 0 < total w = let e = c.total-weight.ensures in let n = c.if-weight-eq0.false in omega arith in
     let apart = r.rounded.below.apart in
     let past = by_place_past g.P.Party.heft row.items.now in
     let s = at_place c.added.result in
