@@ -60,8 +60,13 @@ impl StepOffer {
     {
         self.listed()
             .iter()
-            .filter(|step| step.price <= price)
-            .map(|step| u32::from(step.power))
+            .map(|step| {
+                if step.price <= price {
+                    u32::from(step.power)
+                } else {
+                    0
+                }
+            })
             .sum()
     }
 

@@ -24,7 +24,7 @@ impl Claim for Remainder {
     ghost numbered = { Prim.search rules };
 
     fn before(&self, other: &Remainder) -> bool {
-        (other.part, self.number) < (self.part, other.number)
+        other.part < self.part || other.part == self.part && self.number < other.number
     }
 
     fn number(&self) -> usize {
@@ -57,7 +57,7 @@ impl Claim for Fraction {
     fn before(&self, other: &Fraction) -> bool {
         let mine = (u64::from(self.had) + 1) * u64::from(other.weight);
         let theirs = (u64::from(other.had) + 1) * u64::from(self.weight);
-        (mine, self.number) < (theirs, other.number)
+        mine < theirs || mine == theirs && self.number < other.number
     }
 
     fn number(&self) -> usize {
