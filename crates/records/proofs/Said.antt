@@ -15,10 +15,13 @@ pub record Reads (st : Stage) (bs : List ℕ) (x : Item) : Type 0 where
   pub fits : stage_is (stage_for kind) st ≡ true
   pub body : body_of kind (drop 2 bs) ≡ Ok x
 
--- Bytes with the mark of a kind that is for the stage say what follows the mark, read as a body of that kind.
+-- Bytes with the mark of a kind say what follows the mark, read as a body of that kind where it is for the stage.
+pub said_for : (st : Stage) (bs : List ℕ) (kind : Kind) → 2 ≤ length bs → kind_of bs ≡ Some kind → said st bs ≡ by_kind st (Some kind) (drop 2 bs)
+said_for st bs kind long marked =
+    ap (λ t. cond t (Err f.Cut) (by_kind st (kind_of bs) (drop 2 bs))) (le-ltb _ _ long) ∙ ap (λ o. by_kind st o (drop 2 bs)) marked
+
 pub said_body : (st : Stage) (bs : List ℕ) (kind : Kind) → 2 ≤ length bs → kind_of bs ≡ Some kind → stage_is (stage_for kind) st ≡ true → said st bs ≡ body_of kind (drop 2 bs)
-said_body st bs kind long marked fits =
-    ap (λ t. cond t (Err f.Cut) (by_kind st (kind_of bs) (drop 2 bs))) (le-ltb _ _ long) ∙ (ap (λ o. by_kind st o (drop 2 bs)) marked ∙ ap (λ t. cond t (body_of kind (drop 2 bs)) (Err f.Misplaced)) fits)
+said_body st bs kind long marked fits = said_for st bs kind long marked ∙ ap (λ t. cond t (body_of kind (drop 2 bs)) (Err f.Misplaced)) fits
 
 -- No other bytes say a record.
 pub said_reads : (st : Stage) (bs : List ℕ) (x : Item) → said st bs ≡ Ok x → Reads st bs x
